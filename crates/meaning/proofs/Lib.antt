@@ -1,0 +1,4 @@
+pub mod Tests
+pub mod Firsts
+pub mod Meanings
+pub mod Chains

@@ -1,0 +1,5 @@
+pub mod Bounded
+pub mod Worlds
+pub mod Orders
+pub mod Books
+pub mod Chains

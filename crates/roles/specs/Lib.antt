@@ -1,0 +1,5 @@
+pub mod Told
+pub mod Closure
+pub mod Rounds
+pub mod Rows
+pub mod Universal
