@@ -3,3 +3,4 @@ pub mod Worlds
 pub mod Orders
 pub mod Books
 pub mod Chains
+pub mod Universal

@@ -2,4 +2,3 @@ pub mod Told
 pub mod Closure
 pub mod Rounds
 pub mod Rows
-pub mod Universal

@@ -6,7 +6,7 @@ ghost use lib.Dec.{ltb};
 ghost use denote.Ref.{now};
 ghost use Rattle.denial.specs.Denials.{answer, granted, denied, says, denialReport};
 ghost use Rattle.denial.specs.declared.Layer.the-variants.{Register};
-ghost use Rattle.roles.specs.Universal.{universalSize, universalUnder, universalPassing, universal-law};
+ghost use Rattle.meaning.specs.Universal.{universalSize, universalUnder, universalPassing, universal-law};
 use denial::Denial;
 use meaning::Hierarchy;
 use meaning::Order;

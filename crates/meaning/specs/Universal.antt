@@ -6,7 +6,7 @@ use Prim.Native.Nat.{ℕ, _+_, _<_, _≤_, min}
 use native.Mathlib.Omega.{arith}
 use lib.Dec.{eqb, leb, ltb}
 use Rattle.std.proofs.shelf.Tests.{cases-lt, cases-eq, cases-bool, and-parts, and-from, and-right, cond-true, cond-false, ltb-true, lt-ltb, leb-true, le-leb, eqb-true, eq-eqb, ne-eqb}
-use Rattle.meaning.specs.Orders.{Lawful}
+use Rattle.meaning.specs.Orders.{Lawful, RoleBox}
 
 -- the count with the universal role; over 64 roles there is no number for one, and nothing is added
 abbrev pub universalSize : ℕ → ℕ
@@ -20,16 +20,16 @@ universalUnder n u r s = cond (ltb n 64 && eqb s n) (leb r n) (u r s)
 abbrev pub universalPassing : ℕ → (ℕ → Bool) → ℕ → Bool
 universalPassing n passing r = eqb r n || passing r
 
-universal-at : (n : ℕ) (u : ℕ → ℕ → Bool) (r s : ℕ) → n < 64 → s ≡ n → r ≤ n → universalUnder n u r s ≡ true
+pub universal-at : (n : ℕ) (u : ℕ → ℕ → Bool) (r s : ℕ) → n < 64 → s ≡ n → r ≤ n → universalUnder n u r s ≡ true
 universal-at n u r s few top l =
     cond-true (ltb n 64 && eqb s n) (leb r n) (u r s) (and-from (ltb n 64) (eqb s n) (lt-ltb n 64 few) (eq-eqb s n top)) ∙ le-leb r n l
 
-universal-else : (n : ℕ) (u : ℕ → ℕ → Bool) (r s : ℕ) → s < n → universalUnder n u r s ≡ u r s
+pub universal-else : (n : ℕ) (u : ℕ → ℕ → Bool) (r s : ℕ) → s < n → universalUnder n u r s ≡ u r s
 universal-else n u r s l =
     cond-false (ltb n 64 && eqb s n) (leb r n) (u r s) (and-right (ltb n 64) (eqb s n) (ne-eqb s n (λ e. omega arith)))
 
 -- what a yes says: s is the universal role, or it was said underneath
-universal-cases : (n : ℕ) (u : ℕ → ℕ → Bool) (r s : ℕ) → universalUnder n u r s ≡ true → ((n < 64) × (s ≡ n) × (r ≤ n)) ⊎ (u r s ≡ true)
+pub universal-cases : (n : ℕ) (u : ℕ → ℕ → Bool) (r s : ℕ) → universalUnder n u r s ≡ true → ((n < 64) × (s ≡ n) × (r ≤ n)) ⊎ (u r s ≡ true)
 universal-cases n u r s e = ⊎-elim
     (λ h.
     let p = and-parts (ltb n 64) (eqb s n) h in
@@ -66,3 +66,11 @@ module _ (n : ℕ) (u : ℕ → ℕ → Bool) (law : Lawful n u) where
     reflexive = universal-reflexive;
     transitive = universal-transitive;
   }
+
+-- what a hierarchy says with the universal role over it
+abbrev pub withUniversal : RoleBox → RoleBox
+withUniversal H = record {
+  count = universalSize (H .count);
+  below = universalUnder (H .count) (H .below);
+  transitive = λ r. ltb r (universalSize (H .count)) && universalPassing (H .count) (H .transitive) r;
+}

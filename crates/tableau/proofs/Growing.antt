@@ -1,0 +1,212 @@
+-- Expansions are saturated: entries are taken from the highest down, each adds only lower ones, and so nothing that was
+-- taken is disturbed.
+use mathlib.Core.Path.{_≡_, refl, subst}
+use mathlib.Core.Bool.{Bool, true, false, not, cond, _&&_, _||_}
+use mathlib.Core.List.{List, [], _∷_, _++_}
+use mathlib.Core.Logic.{_⊎_, inl, inr, ⊎-elim}
+use Prim.Native.Nat.{ℕ, zero, suc, _+_, _<_, _≤_}
+use native.Mathlib.Omega.{arith}
+use Rattle.std.proofs.shelf.Tests.{cases-bool, cases-eq, and-from, or-cases, or-left, both-ways}
+use Rattle.meaning.specs.declared.Concept.the-variants.{Nothing, Everything, Name, Not, And, Or, Restriction}
+use Rattle.meaning.proofs.Tests.{any-none}
+use Rattle.tableau.specs.declared.Label.{Label}
+use Rattle.tableau.specs.declared.Entry.{Entry}
+use Rattle.tableau.specs.declared.Entry.the-variants.{Plain, Inclusion, Inclusions}
+use Rattle.tableau.specs.declared.Ways.{Ways}
+use Rattle.tableau.specs.declared.Ways.the-variants.{One, Two}
+use Rattle.tableau.specs.Labels.{inLabel, put}
+use Rattle.tableau.specs.Entries.{Table, LowerEntry}
+use Rattle.tableau.specs.Expansions.{absurdEntry, clashAt, clash, oneOf, grown, taken, branch, expand, expansions}
+use Rattle.tableau.proofs.Folding.{fold-keeps, fold-gives}
+use Rattle.tableau.proofs.Labelling.{put-in, put-keeps, put-cases}
+use Rattle.tableau.proofs.Standing.{Saturates, Saturated, Holds}
+
+-- the label is one of the list
+abbrev pub In : Label → List Label → Type 0
+In e [] = ⊥
+In e (l ∷ ls) = (l ≡ e) ⊎ In e ls
+
+in-append : (e : Label) (ls ms : List Label) → In e (ls ++ ms) → In e ls ⊎ In e ms
+in-append e [] ms h = inr h
+in-append e (l ∷ ls) ms h = ⊎-elim (λ p. inl (inl p)) (λ p. ⊎-elim (λ q. inl (inr q)) (λ q. inr q) (in-append e ls ms p)) h
+
+-- a label that holds more is saturated for what it was saturated for
+pub saturates-more : (e : Entry) (s : Bool) (l m : Label) → Holds m l → Saturates e s l → Saturates e s m
+saturates-more (Plain Nothing) s l m h u = tt
+saturates-more (Plain Everything) s l m h u = tt
+saturates-more (Plain (Name n)) s l m h u = tt
+saturates-more (Plain (Not a)) s l m h u = h (not s) a u
+saturates-more (Plain (And a b)) true l m h u = (h true a (u .0), h true b (u .1))
+saturates-more (Plain (And a b)) false l m h u = ⊎-elim (λ p. inl (h false a p)) (λ p. inr (h false b p)) u
+saturates-more (Plain (Or a b)) true l m h u = ⊎-elim (λ p. inl (h true a p)) (λ p. inr (h true b p)) u
+saturates-more (Plain (Or a b)) false l m h u = (h false a (u .0), h false b (u .1))
+saturates-more (Plain (Restriction q r a)) s l m h u = tt
+saturates-more (Inclusion c d) true l m h u = ⊎-elim (λ p. inl (h false c p)) (λ p. inr (h true d p)) u
+saturates-more (Inclusion c d) false l m h u = tt
+saturates-more (Inclusions lo n) true l m h u = λ k p. h true (lo + k) (u k p)
+saturates-more (Inclusions lo n) false l m h u = tt
+
+-- m is l with entries below k besides
+record Grew (k : ℕ) (l m : Label) : Type 0 where
+  holds : Holds m l
+  old : (s : Bool) (i : ℕ) → k ≤ i → inLabel m s i ≡ true → inLabel l s i ≡ true
+
+grew-none : (k : ℕ) (l : Label) → Grew k l l
+grew-none k l = record { holds = λ s i h. h; old = λ s i p h. h }
+
+grew-put : (k : ℕ) (l m : Label) (s : Bool) (a : ℕ) → a < k → Grew k l m → Grew k l (put s a m)
+grew-put k l m s a low g = record {
+  holds = λ t i h. put-keeps s a m t i (g .holds t i h);
+  old = λ t i p h. ⊎-elim (λ same. absurd (omega (arith, same .1))) (λ was. g .old t i p was) (put-cases s a m t i h);
+}
+
+grew-on : (j k : ℕ) (l m n : Label) → j ≤ k → Grew k l m → Grew j m n → Grew k l n
+grew-on j k l m n low g h = record {
+  holds = λ s i p. h .holds s i (g .holds s i p);
+  old = λ s i p q. g .old s i p (h .old s i (omega arith) q);
+}
+
+-- a fact of each way
+abbrev Each-way : (Label → Type 0) → Ways → Type 0
+Each-way P (One l) = P l
+Each-way P (Two l m) = P l × P m
+
+-- a way of l that takes the signed entry, whose parts are below k
+abbrev Takes : ℕ → Entry → Bool → Label → Label → Type 0
+Takes k e s l m = Grew k l m × Saturates e s m
+
+one-of : (P : Label → Type 0) (b : Bool) (x y l : Label) → (b ≡ true → P l) → P x → P y → Each-way P (oneOf b x y l)
+one-of P true x y l f p q = f refl
+one-of P false x y l f p q = (p, q)
+
+grew-one : (k : ℕ) (l : Label) (s : Bool) (a : ℕ) → a < k → Grew k l (put s a l)
+grew-one k l s a low = grew-put k l l s a low (grew-none k l)
+
+grew-two : (k : ℕ) (l : Label) (s : Bool) (a b : ℕ) → a < k → b < k → Grew k l (put s a (put s b l))
+grew-two k l s a b p q = grew-put k l (put s b l) s a p (grew-one k l s b q)
+
+grown-takes : (k : ℕ) (e : Entry) (s : Bool) (l : Label) → LowerEntry k e → Each-way (Takes k e s l) (grown e s l)
+grown-takes k (Plain Nothing) s l low = (grew-none k l, tt)
+grown-takes k (Plain Everything) s l low = (grew-none k l, tt)
+grown-takes k (Plain (Name n)) s l low = (grew-none k l, tt)
+grown-takes k (Plain (Not a)) s l low = (grew-one k l (not s) a low, put-in (not s) a l)
+grown-takes k (Plain (And a b)) true l low =
+    (grew-two k l true a b (low .0) (low .1), (put-in true a (put true b l), put-keeps true a (put true b l) true b (put-in true b l)))
+grown-takes k (Plain (And a b)) false l low = one-of (Takes k (Plain (And a b)) false l) (inLabel l false a || inLabel l false b) (put false a l) (put false b l) l
+    (λ h. (grew-none k l, or-cases (inLabel l false a) (inLabel l false b) h))
+    (grew-one k l false a (low .0), inl (put-in false a l))
+    (grew-one k l false b (low .1), inr (put-in false b l))
+grown-takes k (Plain (Or a b)) true l low = one-of (Takes k (Plain (Or a b)) true l) (inLabel l true a || inLabel l true b) (put true a l) (put true b l) l
+    (λ h. (grew-none k l, or-cases (inLabel l true a) (inLabel l true b) h))
+    (grew-one k l true a (low .0), inl (put-in true a l))
+    (grew-one k l true b (low .1), inr (put-in true b l))
+grown-takes k (Plain (Or a b)) false l low =
+    (grew-two k l false a b (low .0) (low .1), (put-in false a (put false b l), put-keeps false a (put false b l) false b (put-in false b l)))
+grown-takes k (Plain (Restriction q r a)) s l low = (grew-none k l, tt)
+grown-takes k (Inclusion c d) true l low = one-of (Takes k (Inclusion c d) true l) (inLabel l false c || inLabel l true d) (put false c l) (put true d l) l
+    (λ h. (grew-none k l, or-cases (inLabel l false c) (inLabel l true d) h))
+    (grew-one k l false c (low .0), inl (put-in false c l))
+    (grew-one k l true d (low .1), inr (put-in true d l))
+grown-takes k (Inclusion c d) false l low = (grew-none k l, tt)
+grown-takes k (Inclusions lo n) true l low = (
+  fold-keeps (Grew k l) n (λ j. put true (lo + j)) (λ j m p g. grew-put k l m true (lo + j) (omega arith) g) l (grew-none k l),
+  (λ j p. fold-gives (λ m. inLabel m true (lo + j) ≡ true) n j (λ j. put true (lo + j)) p (λ m. put-in true (lo + j) m)
+      (λ i m h. put-keeps true (lo + i) m true (lo + j) h) l),
+)
+grown-takes k (Inclusions lo n) false l low = (grew-none k l, tt)
+
+-- a way of l that takes entry k with the sign it has, + before -
+record Took (k : ℕ) (e : Entry) (l m : Label) : Type 0 where
+  grew : Grew k l m
+  with-plus : inLabel l true k ≡ true → Saturates e true m
+  with-minus : inLabel l true k ≡ false → inLabel l false k ≡ true → Saturates e false m
+
+each-weaker : (P Q : Label → Type 0) → ((m : Label) → P m → Q m) → (w : Ways) → Each-way P w → Each-way Q w
+each-weaker P Q f (One l) p = f l p
+each-weaker P Q f (Two l m) p = (f l (p .0), f m (p .1))
+
+taken-took : (k : ℕ) (e : Entry) (l : Label) → LowerEntry k e → Each-way (Took k e l) (taken e k l)
+unfolding taken
+taken-took k e l low = go (inLabel l true k) refl (inLabel l false k) refl
+  where
+    go : (p : Bool) → inLabel l true k ≡ p → (q : Bool) → inLabel l false k ≡ q → Each-way (Took k e l) (cond p (grown e true l) (cond q (grown e false l) (One l)))
+    go true hp q hq = each-weaker (Takes k e true l) (Took k e l)
+        (λ m t. record { grew = t .0; with-plus = λ z. t .1; with-minus = λ z. absurd (both-ways (inLabel l true k) z hp) })
+        (grown e true l) (grown-takes k e true l low)
+    go false hp true hq = each-weaker (Takes k e false l) (Took k e l)
+        (λ m t. record { grew = t .0; with-plus = λ z. absurd (both-ways (inLabel l true k) hp z); with-minus = λ z y. t .1 })
+        (grown e false l) (grown-takes k e false l low)
+    go false hp false hq = record {
+      grew = grew-none k l;
+      with-plus = λ z. absurd (both-ways (inLabel l true k) hp z);
+      with-minus = λ z y. absurd (both-ways (inLabel l false k) hq y);
+    }
+
+-- what is in a branch comes by one of the ways
+in-branch : (P : Label → Type 0) (e : Label) (f : Label → List Label) (w : Ways) → Each-way P w → In e (branch f w) → (m : Label) × P m × In e (f m)
+unfolding branch
+in-branch P e f (One l) p h = (l, p, h)
+in-branch P e f (Two l m) p h = ⊎-elim (λ q. (l, p .0, q)) (λ q. (m, p .1, q)) (in-append e (f l) (f m) h)
+
+-- a label without a clash has not both signs of an entry
+not-both-signs : (B : Table) (l : Label) → clash B l ≡ false → (i : ℕ) → i < B .width → inLabel l true i ≡ true → inLabel l false i ≡ true → ⊥
+unfolding clash
+not-both-signs B l calm i low p q =
+    let none = any-none (B .width) (λ i. clashAt (B .entry i) l i) calm i low in
+    both-ways (clashAt (B .entry i) l i) none
+    (or-left (inLabel l true i && inLabel l false i || inLabel l true i && absurdEntry (B .entry i) true) (inLabel l false i && absurdEntry (B .entry i) false)
+    (or-left (inLabel l true i && inLabel l false i) (inLabel l true i && absurdEntry (B .entry i) true) (and-from (inLabel l true i) (inLabel l false i) p q)))
+
+-- e is an expansion of l by the entries below k
+record Expanded (B : Table) (k : ℕ) (l e : Label) : Type 0 where
+  grew : Grew k l e
+  calm : clash B e ≡ false
+  done : (i : ℕ) (s : Bool) → i < k → i < B .width → inLabel e s i ≡ true → Saturates (B .entry i) s e
+
+in-calm : (B : Table) (l e : Label) → In e (cond (clash B l) [] (l ∷ [])) → Expanded B 0 l e
+in-calm B l e h = go (clash B l) refl h
+  where
+    go : (b : Bool) → clash B l ≡ b → In e (cond b [] (l ∷ [])) → Expanded B 0 l e
+    go true c h = absurd h
+    go false c h = ⊎-elim
+        (λ (same : l ≡ e). subst (Expanded B 0 l) same (record { grew = grew-none 0 l; calm = c; done = λ i s p. absurd (omega arith) }))
+        (λ none. absurd none) h
+
+expanded-step : (B : Table) (k : ℕ) (l m e : Label) → Took k (B .entry k) l m → Expanded B k m e → Expanded B (suc k) l e
+expanded-step B k l m e t x = record { grew = grew-on k (suc k) l m e (omega arith) (grew-up (t .grew)) (x .grew); calm = x .calm; done = done }
+  where
+    grew-up : Grew k l m → Grew (suc k) l m
+    grew-up g = record { holds = g .holds; old = λ s i p h. g .old s i (omega arith) h }
+
+    was : (s : Bool) → inLabel e s k ≡ true → inLabel l s k ≡ true
+    was s h = t .grew .old s k (omega arith) (x .grew .old s k (omega arith) h)
+
+    now-too : (s : Bool) → inLabel l s k ≡ true → inLabel e s k ≡ true
+    now-too s h = x .grew .holds s k (t .grew .holds s k h)
+
+    here : (s : Bool) → k < B .width → inLabel e s k ≡ true → Saturates (B .entry k) s e
+    here true low h = saturates-more (B .entry k) true m e (x .grew .holds) (t .with-plus (was true h))
+    here false low h = ⊎-elim
+        (λ p. absurd (not-both-signs B e (x .calm) k low (now-too true p) h))
+        (λ p. saturates-more (B .entry k) false m e (x .grew .holds) (t .with-minus p (was false h)))
+        (cases-bool (inLabel l true k))
+
+    done : (i : ℕ) (s : Bool) → i < suc k → i < B .width → inLabel e s i ≡ true → Saturates (B .entry i) s e
+    done i s p low h = ⊎-elim
+        (λ (same : k ≡ i). subst (λ j. (s : Bool) → j < B .width → inLabel e s j ≡ true → Saturates (B .entry j) s e) same here s low h)
+        (λ other. x .done i s (omega arith) low h)
+        (cases-eq k i)
+
+expand-right : (B : Table) → ((i : ℕ) → LowerEntry i (B .entry i)) → (k : ℕ) (l e : Label) → In e (expand B k l) → Expanded B k l e
+unfolding expand
+expand-right B low zero l e h = in-calm B l e h
+expand-right B low (suc k) l e h =
+    let w = in-branch (Took k (B .entry k) l) e (expand B k) (taken (B .entry k) k l) (taken-took k (B .entry k) l (low k)) h in
+    expanded-step B k l (w .0) e (w .1) (expand-right B low k (w .0) e (w .2))
+
+-- every expansion of a seed is saturated and holds the seed
+pub expansions-saturated : (B : Table) → ((i : ℕ) → LowerEntry i (B .entry i)) → (seed e : Label) → In e (expansions B seed) → Saturated B e × Holds e seed
+unfolding expansions
+expansions-saturated B low seed e h =
+    let x = expand-right B low (B .width) seed e h in
+    (record { calm = x .calm; saturated = λ i s l p. x .done i s l l p }, x .grew .holds)

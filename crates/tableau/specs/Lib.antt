@@ -1,0 +1,10 @@
+pub mod Folds
+pub mod Labels
+pub mod Entries
+pub mod Expansions
+pub mod Seeds
+pub mod Search
+pub mod Found
+pub mod Working
+pub mod Promises
+pub mod Examples
