@@ -12,6 +12,7 @@ use Rattle.tableau.specs.Found.{leads, edge, joined, borne}
 use Rattle.tableau.specs.Working.{propagatedOf, entryOf, propagatesOf}
 use Rattle.tableau.specs.Examples.{Worked-examples}
 
+-- each by computing it
 pub worked-examples : Worked-examples
 unfolding has any all reach fold gather empty inLabel put contains anyContains lowest clash taken branch expand expansions tellPropagated seedOf orElse andThen reuse pursue meetFrom tryEach enter explore leads edge joined borne propagatedOf entryOf propagatesOf
 worked-examples = record {

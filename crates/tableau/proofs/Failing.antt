@@ -4,7 +4,6 @@ use mathlib.Core.Bool.{Bool, true, false, not, cond, _&&_, _||_}
 use mathlib.Core.List.{List, [], _∷_, _++_}
 use mathlib.Core.Logic.{_⊎_, inl, inr, ⊎-elim}
 use Prim.Native.Nat.{ℕ, zero, suc, _+_, _<_}
-use native.Mathlib.Omega.{arith}
 use lib.Dec.{leb}
 use lib.ListN.{length}
 use Rattle.std.proofs.shelf.Tests.{cases-bool, and-parts, and-cases, or-cases, or-parts, both-ways, not-true, cond-both}
@@ -20,28 +19,19 @@ use Rattle.tableau.specs.declared.Ways.{Ways}
 use Rattle.tableau.specs.declared.Ways.the-variants.{One, Two}
 use Rattle.tableau.specs.declared.Obligation.{Obligation}
 use Rattle.tableau.specs.declared.Obligation.the-variants.{Idle, Wants}
-use Rattle.tableau.specs.Folds.{fold}
 use Rattle.tableau.specs.Labels.{empty, inLabel, put, anyContains}
-use Rattle.tableau.specs.Entries.{Table, means, Meaning, Ordered, Follows, Tabled}
+use Rattle.tableau.specs.Entries.{Table, means, Meaning, Follows, Tabled}
 use Rattle.tableau.specs.Expansions.{absurdEntry, clashAt, clash, oneOf, grown, taken, branch, expand, expansions}
-use Rattle.tableau.specs.Seeds.{obliges, signOf, obligation, obligationAt, roleOf, tellPropagated, tellOn, tellEntry, tell, seedOf}
-use Rattle.tableau.specs.Search.{Outcome, failed, full, stands, Searcher, orElse, andThen, reuse, pursue, meetFrom, tryEach, enter, explore}
+use Rattle.tableau.specs.Seeds.{obliges, signOf, obligationAt, roleOf, seedOf}
+use Rattle.tableau.specs.Search.{failed, Searcher, reuse, pursue, meetFrom, tryEach, enter, explore}
+use Rattle.tableau.proofs.Tests.{never, not-sign}
 use Rattle.tableau.proofs.Folding.{fold-keeps}
 use Rattle.tableau.proofs.Labelling.{in-empty, put-cases}
 use Rattle.tableau.proofs.Restrictions.{obliged, restricted, restrict}
-
--- the label is one of the list
-abbrev pub In : Label → List Label → Type 0
-In e [] = ⊥
-In e (l ∷ ls) = (l ≡ e) ⊎ In e ls
-
-in-left : (e : Label) (xs ys : List Label) → In e xs → In e (xs ++ ys)
-in-left e [] ys m = absurd m
-in-left e (x ∷ xs) ys m = ⊎-elim (λ h. inl h) (λ h. inr (in-left e xs ys h)) m
-
-in-right : (e : Label) (xs ys : List Label) → In e ys → In e (xs ++ ys)
-in-right e [] ys m = m
-in-right e (x ∷ xs) ys m = inr (in-right e xs ys m)
+use Rattle.tableau.proofs.Obligations.{obliging-at}
+use Rattle.tableau.proofs.Outcomes.{then-cases, else-cases}
+use Rattle.tableau.proofs.Standing.{In, in-left, in-right}
+use Rattle.tableau.proofs.Telling.{Restricting, seed-stays}
 
 -- the individual x is in each entry with + of the label, and outside each with -
 abbrev pub Sat : (ℕ → ℕ → Bool) → ℕ → Label → Type 0
@@ -51,14 +41,8 @@ Sat h x l = (s : Bool) (i : ℕ) → inLabel l s i ≡ true → h i x ≡ s
 abbrev pub Absent : Interpretation → (ℕ → ℕ → Bool) → Label → Type 0
 Absent W h l = (x : ℕ) → x < W .size → Sat h x l → ⊥
 
-not-sign : (b s : Bool) → not b ≡ s → b ≡ not s
-not-sign true s e = ap not e
-not-sign false s e = ap not e
-
 module _ (h : ℕ → ℕ → Bool) (x : ℕ) where
-  sat-empty : Sat h x empty
-  sat-empty s i e = absurd (both-ways (inLabel empty s i) (in-empty s i) e)
-
+  -- what is put in is true of x, if it is
   sat-put : (s : Bool) (i : ℕ) (l : Label) → h i x ≡ s → Sat h x l → Sat h x (put s i l)
   sat-put s i l e S t j m = ⊎-elim (λ p. let same = p .0 in let here = p .1 in cc) (S t j) (put-cases s i l t j m)
 
@@ -67,9 +51,13 @@ module _ (h : ℕ → ℕ → Bool) (x : ℕ) where
   Open (One l) = Sat h x l
   Open (Two l m) = Sat h x l ⊎ Sat h x m
 
-  open-one-of : (b : Bool) (y z l : Label) → Sat h x l → Sat h x y ⊎ Sat h x z → Open (oneOf b y z l)
-  open-one-of true y z l S p = S
-  open-one-of false y z l S p = p
+  -- two entries, or one of two
+  open-both : (t : Bool) (a b : ℕ) (l : Label) → Sat h x l → (h a x ≡ t) × (h b x ≡ t) → Sat h x (put t a (put t b l))
+  open-both t a b l S p = sat-put t a (put t b l) (p .0) (sat-put t b l (p .1) S)
+
+  open-either : (t u : Bool) (a b : ℕ) (l : Label) → Sat h x l → (h a x ≡ t) ⊎ (h b x ≡ u) → (c : Bool) → Open (oneOf c (put t a l) (put u b l) l)
+  open-either t u a b l S p true = S
+  open-either t u a b l S p false = ⊎-elim (λ e. inl (sat-put t a l e S)) (λ e. inr (sat-put u b l e S)) p
 
   -- what an entry that holds of x adds holds of x, by one way at least
   grown-open : (W : Interpretation) (e : Entry) (s : Bool) → means W e h x ≡ s → (l : Label) → Sat h x l → Open (grown e s l)
@@ -77,27 +65,19 @@ module _ (h : ℕ → ℕ → Bool) (x : ℕ) where
   grown-open W (Plain Everything) s m l S = S
   grown-open W (Plain (Name n)) s m l S = S
   grown-open W (Plain (Not a)) s m l S = sat-put (not s) a l (not-sign (h a x) s m) S
-  grown-open W (Plain (And a b)) true m l S =
-      let p = and-parts (h a x) (h b x) m in
-      sat-put true a (put true b l) (p .0) (sat-put true b l (p .1) S)
-  grown-open W (Plain (And a b)) false m l S =
-      open-one-of (inLabel l false a || inLabel l false b) (put false a l) (put false b l) l S
-      (⊎-elim (λ e. inl (sat-put false a l e S)) (λ e. inr (sat-put false b l e S)) (and-cases (h a x) (h b x) m))
-  grown-open W (Plain (Or a b)) true m l S =
-      open-one-of (inLabel l true a || inLabel l true b) (put true a l) (put true b l) l S
-      (⊎-elim (λ e. inl (sat-put true a l e S)) (λ e. inr (sat-put true b l e S)) (or-cases (h a x) (h b x) m))
-  grown-open W (Plain (Or a b)) false m l S =
-      let p = or-parts (h a x) (h b x) m in
-      sat-put false a (put false b l) (p .0) (sat-put false b l (p .1) S)
+  grown-open W (Plain (And a b)) true m l S = open-both true a b l S (and-parts (h a x) (h b x) m)
+  grown-open W (Plain (And a b)) false m l S = open-either false false a b l S (and-cases (h a x) (h b x) m) (inLabel l false a || inLabel l false b)
+  grown-open W (Plain (Or a b)) true m l S = open-either true true a b l S (or-cases (h a x) (h b x) m) (inLabel l true a || inLabel l true b)
+  grown-open W (Plain (Or a b)) false m l S = open-both false a b l S (or-parts (h a x) (h b x) m)
   grown-open W (Plain (Restriction q r a)) s m l S = S
-  grown-open W (Inclusion c d) true m l S =
-      open-one-of (inLabel l false c || inLabel l true d) (put false c l) (put true d l) l S
-      (⊎-elim (λ e. inl (sat-put false c l (not-true (h c x) e) S)) (λ e. inr (sat-put true d l e S)) (or-cases (not (h c x)) (h d x) m))
+  grown-open W (Inclusion c d) true m l S = open-either false true c d l S
+      (⊎-elim (λ e. inl (not-true (h c x) e)) (λ e. inr e) (or-cases (not (h c x)) (h d x) m)) (inLabel l false c || inLabel l true d)
   grown-open W (Inclusion c d) false m l S = S
   grown-open W (Inclusions lo n) true m l S =
       fold-keeps (Sat h x) n (λ k. put true (lo + k)) (λ k a b p. sat-put true (lo + k) a (all-at n (λ j. h (lo + j) x) m k b) p) l S
   grown-open W (Inclusions lo n) false m l S = S
 
+  -- what no individual has, x has not
   absurd-never : (W : Interpretation) (e : Entry) (s : Bool) → absurdEntry e s ≡ true → means W e h x ≡ s → ⊥
   absurd-never W (Plain Nothing) s a m = both-ways s (sym m) a
   absurd-never W (Plain Everything) s a m = both-ways s (not-true s a) (sym m)
@@ -111,9 +91,11 @@ module _ (h : ℕ → ℕ → Bool) (x : ℕ) where
 
 -- Local completeness: what x satisfies has an expansion that x satisfies.
 module _ (B : Table) (W : Interpretation) (h : ℕ → ℕ → Bool) (M : Meaning W (B .entry) h) (x : ℕ) where
+  -- what the label says of an entry, it says of its meaning
   holds-of : (l : Label) → Sat h x l → (s : Bool) (i : ℕ) → inLabel l s i ≡ true → means W (B .entry i) h x ≡ s
   holds-of l S s i m = sym (M i x) ∙ S s i m
 
+  -- none of the three clashes is at an entry
   no-clash-at : (l : Label) → Sat h x l → (i : ℕ) → clashAt (B .entry i) l i ≡ true → ⊥
   no-clash-at l S i e =
       let both = inLabel l true i && inLabel l false i in
@@ -136,6 +118,7 @@ module _ (B : Table) (W : Interpretation) (h : ℕ → ℕ → Bool) (M : Meanin
   sat-calm l S = none-any (B .width) (λ i. clashAt (B .entry i) l i)
       (λ i b. ⊎-elim (λ e. absurd (no-clash-at l S i e)) (λ e. e) (cases-bool (clashAt (B .entry i) l i)))
 
+  -- the entry that is taken leaves a way open
   taken-open : (k : ℕ) (l : Label) → Sat h x l → Open h x (taken (B .entry k) k l)
   unfolding taken
   taken-open k l S = cond-both (inLabel l true k) (grown (B .entry k) true l) (cond (inLabel l false k) (grown (B .entry k) false l) (One l)) (Open h x)
@@ -148,6 +131,7 @@ module _ (B : Table) (W : Interpretation) (h : ℕ → ℕ → Bool) (M : Meanin
   abbrev Meets : List Label → Type 0
   Meets ls = (e : Label) × In e ls × Sat h x e
 
+  -- and the ways that are open lead to it
   branch-meets : (f : Label → List Label) → ((l : Label) → Sat h x l → Meets (f l)) → (w : Ways) → Open h x w → Meets (branch f w)
   unfolding branch
   branch-meets f g (One l) S = g l S
@@ -156,53 +140,16 @@ module _ (B : Table) (W : Interpretation) (h : ℕ → ℕ → Bool) (M : Meanin
       (λ S. let k = g m S in (k .0, in-right (k .0) (f l) (f m) (k .1), k .2))
       p
 
+  -- and so on down to the last entry
   expand-meets : (k : ℕ) (l : Label) → Sat h x l → Meets (expand B k l)
   unfolding expand
   expand-meets zero l S = rw (sat-calm l S) (l, inl refl, S)
   expand-meets (suc k) l S = branch-meets (expand B k) (expand-meets k) (taken (B .entry k) k l) (taken-open k l S)
 
+  -- what x satisfies has an expansion that x satisfies
   pub some-expansion : (seed : Label) → Sat h x seed → (e : Label) × In e (expansions B seed) × Sat h x e
   unfolding expansions
   some-expansion seed S = expand-meets (B .width) seed S
-
-idle-never : (r a : ℕ) (s : Bool) → Idle ≡ Wants r s a → ⊥
-idle-never r a s e = let z : _≡_ {A = ℕ} 0 1 = cc in omega arith
-
--- what an entry's obligation comes from
-wants-is : (b : Bool) (r a : ℕ) (s : Bool) (r' a' : ℕ) (s' : Bool) → cond b (Wants r s a) Idle ≡ Wants r' s' a' → (b ≡ true) × (r ≡ r') × (s ≡ s') × (a ≡ a')
-wants-is true r a s r' a' s' e = (refl, cc, cc, cc)
-wants-is false r a s r' a' s' e = absurd (idle-never r' a' s' e)
-
-signed-wants : (b c : Bool) (o p : Obligation) (r a : ℕ) (s : Bool) → cond b o (cond c p Idle) ≡ Wants r s a
-    → ((b ≡ true) × (o ≡ Wants r s a)) ⊎ ((c ≡ true) × (p ≡ Wants r s a))
-signed-wants true c o p r a s e = inl (refl, e)
-signed-wants false true o p r a s e = inr (refl, e)
-signed-wants false false o p r a s e = absurd (idle-never r a s e)
-
-module _ (W : Interpretation) (h : ℕ → ℕ → Bool) (x : ℕ) where
-  -- an obligation of x is met in the world
-  abbrev Met : ℕ → Bool → ℕ → Type 0
-  Met r s a = (y : ℕ) × (y < W .size) × (W .joins r x y ≡ true) × (h a y ≡ s)
-
-  obligation-met : (e : Entry) (t : Bool) (r a : ℕ) (s : Bool) → obligation e t ≡ Wants r s a → means W e h x ≡ t → Met r s a
-  obligation-met (Plain Nothing) t r a s e m = absurd (idle-never r a s e)
-  obligation-met (Plain Everything) t r a s e m = absurd (idle-never r a s e)
-  obligation-met (Plain (Name n)) t r a s e m = absurd (idle-never r a s e)
-  obligation-met (Plain (Not b)) t r a s e m = absurd (idle-never r a s e)
-  obligation-met (Plain (And b c)) t r a s e m = absurd (idle-never r a s e)
-  obligation-met (Plain (Or b c)) t r a s e m = absurd (idle-never r a s e)
-  obligation-met (Plain (Restriction q p b)) t r a s e m =
-      let w = wants-is (obliges q t) p b (signOf q t) r a s e in
-      let k = obliged W p b x h q t (w .0) m in
-      (k .0, k .1, ap (λ u. W .joins u x (k .0)) (sym (w .1)) ∙ k .2, ap (λ u. h u (k .0)) (sym (w .3)) ∙ k .3 ∙ w .2)
-  obligation-met (Inclusion c d) t r a s e m = absurd (idle-never r a s e)
-  obligation-met (Inclusions lo n) t r a s e m = absurd (idle-never r a s e)
-
-full-never : full ≡ failed → ⊥
-full-never e = let z : _≡_ {A = ℕ} 0 1 = cc in omega arith
-
-stands-never : (st : List Label) → stands st ≡ failed → ⊥
-stands-never st e = let z : _≡_ {A = ℕ} 0 1 = cc in omega arith
 
 -- One step: an obligation of x leads to an individual that satisfies its seed.
 module _ (H : RoleBox) (B : Table) (T : Tabled H B) (W : Interpretation) (F : Follows H W) (h : ℕ → ℕ → Bool) (M : Meaning W (B .entry) h) where
@@ -212,69 +159,45 @@ module _ (H : RoleBox) (B : Table) (T : Tabled H B) (W : Interpretation) (F : Fo
     passed-on : (p t a : ℕ) (q : Quantifier) (s : Bool) → obliges q s ≡ false → denotes W (Restriction q t a) h x ≡ s
         → H .transitive p ≡ true → H .below r p ≡ true → ((z : ℕ) → z < W .size → W .joins p x z ≡ true → W .joins t x z ≡ true)
         → denotes W (Restriction q p a) h y ≡ s
-    passed-on p t a q s o e tr rp up = restrict W p a y h q s o
-        (λ z bz jz. restricted W t a x h q s o e z bz (up z bz (F .passes p x y z tr bx by bz (F .wider r p x y rp bx by j) jz)))
+    passed-on p t a q s o e on rp up = restrict W p a y h q s o
+        (λ z bz jz. restricted W t a x h q s o e z bz (up z bz (F .passes p x y z on bx by bz (F .wider r p x y rp bx by j) jz)))
 
+    -- what an entry says of y, it is
     means-at : (i : ℕ) (e : Entry) (s : Bool) → B .entry i ≡ e → means W e h y ≡ s → h i y ≡ s
     means-at i e s is m = M i y ∙ ap (λ c. means W c h y) is ∙ m
 
-    tell-propagated-sat : (s : Bool) (i t a : ℕ) (q : Quantifier) → B .entry i ≡ Plain (Restriction q t a) → obliges q s ≡ false → denotes W (Restriction q t a) h x ≡ s
-        → (k : ℕ) (acc : Label) → Sat h y acc → Sat h y (tellPropagated H B r s i k acc)
-    unfolding tellPropagated
-    tell-propagated-sat s i t a q is o e k acc S = cond-both (B .propagates i k && H .below r (roleOf (B .entry k))) (put s k acc) acc (Sat h y)
-        (λ c.
-        let b = and-parts (B .propagates i k) (H .below r (roleOf (B .entry k))) c in
-        let P = T .propagated i k t a q (b .0) is in
-        sat-put h y s k acc
-        (means-at k (Plain (Restriction q (P .0) a)) s (P .1)
-        (passed-on (P .0) t a q s o e (P .2) (ap (λ u. H .below r (roleOf u)) (sym (P .1)) ∙ b .1) (λ z bz. F .wider (P .0) t x z (P .3) bx bz)))
-        S)
-        (λ c. S)
-
-    tell-on-sat : (s : Bool) (i t a : ℕ) (q : Quantifier) → B .entry i ≡ Plain (Restriction q t a) → obliges q s ≡ false → denotes W (Restriction q t a) h x ≡ s
-        → H .below r t ≡ true → (acc : Label) → Sat h y acc → Sat h y (tellOn H B r s i t acc)
-    tell-on-sat s i t a q is o e rt acc S = cond-both (H .transitive t) (put s i acc) (fold (B .width) (tellPropagated H B r s i) acc) (Sat h y)
-        (λ tr. sat-put h y s i acc (means-at i (Plain (Restriction q t a)) s is (passed-on t t a q s o e tr rt (λ z bz jz. jz))) S)
-        (λ no. fold-keeps (Sat h y) (B .width) (tellPropagated H B r s i) (λ k b l. tell-propagated-sat s i t a q is o e k b) acc S)
-
-    tell-entry-sat : (s : Bool) (i : ℕ) (e : Entry) → B .entry i ≡ e → means W e h x ≡ s → (acc : Label) → Sat h y acc → Sat h y (tellEntry H B r s i e acc)
-    tell-entry-sat s i (Plain Nothing) is m acc S = S
-    tell-entry-sat s i (Plain Everything) is m acc S = S
-    tell-entry-sat s i (Plain (Name n)) is m acc S = S
-    tell-entry-sat s i (Plain (Not a)) is m acc S = S
-    tell-entry-sat s i (Plain (And a b)) is m acc S = S
-    tell-entry-sat s i (Plain (Or a b)) is m acc S = S
-    tell-entry-sat s i (Plain (Restriction q t a)) is m acc S =
-        cond-both (not (obliges q s) && H .below r t) (tellOn H B r s i t (put (signOf q s) a acc)) acc (Sat h y)
-        (λ c.
-        let b = and-parts (not (obliges q s)) (H .below r t) c in
-        let o = not-true (obliges q s) (b .0) in
-        tell-on-sat s i t a q is o m (b .1) (put (signOf q s) a acc)
-        (sat-put h y (signOf q s) a acc (restricted W t a x h q s o m y by (F .wider r t x y (b .1) bx by j)) S))
-        (λ c. S)
-    tell-entry-sat s i (Inclusion c d) is m acc S = S
-    tell-entry-sat s i (Inclusions lo n) is m acc S = S
-
-    tell-sat : (l : Label) → Sat h x l → (s : Bool) (i : ℕ) (acc : Label) → Sat h y acc → Sat h y (tell H B l r s i acc)
-    tell-sat l L s i acc S = cond-both (inLabel l s i) (tellEntry H B r s i (B .entry i) acc) acc (Sat h y)
-        (λ m. tell-entry-sat s i (B .entry i) refl (holds-of B W h M x l L s i m) acc S)
-        (λ m. S)
-
     -- y satisfies the seed of a successor by r of what x satisfies
     seed-sat : (l : Label) → Sat h x l → (s : Bool) (a : ℕ) → h a y ≡ s → Sat h y (seedOf H B l r s a)
-    unfolding seedOf
-    seed-sat l L s a e = fold-keeps (Sat h y) (B .width) (λ i acc. tell H B l r true i (tell H B l r false i acc))
-        (λ i acc b S. tell-sat l L true i (tell H B l r false i acc) (tell-sat l L false i acc S))
-        (put s a empty) (sat-put h y s a empty e (sat-empty h y))
+    seed-sat l L s a e = seed-stays H B l r (Sat h y) (record { part = part; itself = itself; propagated = propagated }) s a (sat-put h y s a empty e (λ t i. in-empty t i))
+      where
+        -- what the restriction says is true of x
+        said : (s : Bool) (i : ℕ) (q : Quantifier) (t a : ℕ) → Restricting H B l r s i q t a → denotes W (Restriction q t a) h x ≡ s
+        said s i q t a c = ap (λ e. means W e h x) (sym (c .is)) ∙ holds-of B W h M x l L s i (c .held)
 
+        part : (s : Bool) (i : ℕ) (q : Quantifier) (t a : ℕ) → Restricting H B l r s i q t a → (m : Label) → Sat h y m → Sat h y (put (signOf q s) a m)
+        part s i q t a c m =
+            sat-put h y (signOf q s) a m (restricted W t a x h q s (c .every) (said s i q t a c) y by (F .wider r t x y (c .above) bx by j))
+
+        itself : (s : Bool) (i : ℕ) (q : Quantifier) (t a : ℕ) → Restricting H B l r s i q t a → H .transitive t ≡ true → (m : Label) → Sat h y m → Sat h y (put s i m)
+        itself s i q t a c on m = sat-put h y s i m
+            (means-at i (Plain (Restriction q t a)) s (c .is) (passed-on t t a q s (c .every) (said s i q t a c) on (c .above) (λ z bz jz. jz)))
+
+        propagated : (s : Bool) (i : ℕ) (q : Quantifier) (t a : ℕ) → Restricting H B l r s i q t a → (k : ℕ) → k < B .width → B .propagates i k ≡ true
+            → H .below r (roleOf (B .entry k)) ≡ true → (m : Label) → Sat h y m → Sat h y (put s k m)
+        propagated s i q t a c k w g d m =
+            let P = T .propagated i k t a q g (c .is) in
+            sat-put h y s k m
+            (means-at k (Plain (Restriction q (P .0) a)) s (P .1)
+            (passed-on (P .0) t a q s (c .every) (said s i q t a c) (P .2) (ap (λ u. H .below r (roleOf u)) (sym (P .1)) ∙ d)
+            (λ z bz. F .wider (P .0) t x z (P .3) bx bz)))
+
+  -- an obligation of x is met in the world, by an individual that satisfies its seed
   pub some-successor : (x : ℕ) → x < W .size → (l : Label) → Sat h x l → (i r a : ℕ) (s : Bool) → obligationAt B l i ≡ Wants r s a
       → (y : ℕ) × (y < W .size) × (W .joins r x y ≡ true) × Sat h y (seedOf H B l r s a)
   some-successor x bx l L i r a s e =
-      let k : Met W h x r s a = ⊎-elim
-      (λ p. obligation-met W h x (B .entry i) true r a s (p .1) (holds-of B W h M x l L true i (p .0)))
-      (λ p. obligation-met W h x (B .entry i) false r a s (p .1) (holds-of B W h M x l L false i (p .0)))
-      (signed-wants (inLabel l true i) (inLabel l false i) (obligation (B .entry i) true) (obligation (B .entry i) false) r a s e) in
-      (k .0, k .1, k .2, seed-sat r x (k .0) bx (k .1) (k .2) l L s a (k .3))
+      let c = obliging-at B l i r s a e in
+      let k = obliged W r a x h (c .quantifier) (c .sign) (c .obliging) (ap (λ e. means W e h x) (sym (c .is)) ∙ holds-of B W h M x l L (c .sign) i (c .held)) in
+      (k .0, k .1, k .2, seed-sat r x (k .0) bx (k .1) (k .2) l L s a (k .3 ∙ c .part-sign))
 
   -- a label with an obligation whose seed none satisfies, none satisfies
   pub obligation-absent : (l : Label) (i r a : ℕ) (s : Bool) → obligationAt B l i ≡ Wants r s a → Absent W h (seedOf H B l r s a) → Absent W h l
@@ -293,56 +216,49 @@ module _ (H : RoleBox) (B : Table) (T : Tabled H B) (W : Interpretation) (F : Fo
   Refutes sub = (st : List Label) (seed : Label) → sub st seed ≡ failed → Absent W h seed
 
   module _ (sub : Searcher) (R : Refutes sub) where
+    -- a reused label does not fail
     reuse-fails : (b : Bool) (st : List Label) (seed : Label) → reuse b sub st seed ≡ failed → Absent W h seed
     unfolding reuse
-    reuse-fails true st seed e = absurd (stands-never st e)
+    reuse-fails true st seed e = never cc
     reuse-fails false st seed e = R st seed e
 
+    -- an obligation that fails is of a label that none satisfies
     pursue-fails : (l : Label) (i : ℕ) (o : Obligation) → obligationAt B l i ≡ o → (st : List Label) → pursue H B sub l o st ≡ failed → Absent W h l
     unfolding pursue
-    pursue-fails l i Idle is st e = absurd (stands-never st e)
+    pursue-fails l i Idle is st e = never cc
     pursue-fails l i (Wants r s a) is st e =
         obligation-absent l i r a s is (reuse-fails (anyContains st (seedOf H B l r s a)) st (seedOf H B l r s a) e)
 
-    then-fails : (l : Label) (o : Outcome) (next : List Label → Outcome) → (o ≡ failed → Absent W h l) → ((st : List Label) → next st ≡ failed → Absent W h l)
-        → andThen o next ≡ failed → Absent W h l
-    unfolding andThen
-    then-fails l failed next f g e = f refl
-    then-fails l full next f g e = absurd (full-never e)
-    then-fails l (stands st) next f g e = g st e
-
+    -- and so is one of several
     meet-fails : (l : Label) (d i : ℕ) (st : List Label) → meetFrom H B sub l d i st ≡ failed → Absent W h l
     unfolding meetFrom
-    meet-fails l zero i st e = absurd (stands-never st e)
-    meet-fails l (suc d) i st e =
-        then-fails l (pursue H B sub l (obligationAt B l i) st) (meetFrom H B sub l d (suc i))
-        (pursue-fails l i (obligationAt B l i) refl st) (meet-fails l d (suc i)) e
+    meet-fails l zero i st = λ e. never cc
+    meet-fails l (suc d) i st =
+        then-cases (λ o. o ≡ failed → Absent W h l) (pursue H B sub l (obligationAt B l i) st) (meetFrom H B sub l d (suc i))
+        (λ o e. pursue-fails l i (obligationAt B l i) refl st o) (λ o e. never cc) (λ ls o. meet-fails l d (suc i) ls)
 
-    else-fails : (o : Outcome) (next : Unit {0} → Outcome) → orElse o next ≡ failed → (o ≡ failed) × (next tt ≡ failed)
-    unfolding orElse
-    else-fails failed next e = (refl, e)
-    else-fails full next e = absurd (full-never e)
-    else-fails (stands st) next e = absurd (stands-never st e)
-
+    -- where every expansion fails, none satisfies any
     try-fails : (st es : List Label) → tryEach H B sub st es ≡ failed → (e : Label) → In e es → Absent W h e
     unfolding tryEach
-    try-fails st [] f e m = absurd m
-    try-fails st (l ∷ es) f e m =
-        let p = else-fails (meetFrom H B sub l (B .width) 0 (st ++ l ∷ [])) (λ u. tryEach H B sub st es) f in
-        ⊎-elim
-        (λ (same : l ≡ e). rw same at (meet-fails l (B .width) 0 (st ++ l ∷ []) (p .0)))
-        (try-fails st es (p .1) e) m
+    try-fails st [] = λ f e m. absurd m
+    try-fails st (l ∷ es) =
+        else-cases (λ o. o ≡ failed → (e : Label) → In e (l ∷ es) → Absent W h e) (meetFrom H B sub l (B .width) 0 (st ++ l ∷ [])) (λ u. tryEach H B sub st es)
+        (λ o f e m. ⊎-elim (λ (same : l ≡ e). rw same at (meet-fails l (B .width) 0 (st ++ l ∷ []) o)) (try-fails st es f e) m)
+        (λ o f. never cc) (λ ls o f. never cc)
 
+    -- and so none satisfies the seed
     enter-fails : (b : Bool) (st : List Label) (seed : Label) → enter H B b sub st seed ≡ failed → Absent W h seed
     unfolding enter
-    enter-fails true st seed e = absurd (full-never e)
+    enter-fails true st seed e = never cc
     enter-fails false st seed e = expansions-absent seed (try-fails st (expansions B seed) e)
 
+  -- so the whole search, by its depth
   explore-fails : (n k : ℕ) → Refutes (explore H B n k)
   unfolding explore
-  explore-fails n zero st seed e = absurd (full-never e)
+  explore-fails n zero st seed e = never cc
   explore-fails n (suc k) st seed e = enter-fails (explore H B n k) (explore-fails n k) (leb n (length st)) st seed e
 
-pub failure : (H : RoleBox) → Ordered H → (B : Table) → Tabled H B → (n k : ℕ) (st : List Label) (seed : Label) → explore H B n k st seed ≡ failed
+-- the search fails only where no individual of any such world satisfies its seed
+pub failure : (H : RoleBox) (B : Table) → Tabled H B → (n k : ℕ) (st : List Label) (seed : Label) → explore H B n k st seed ≡ failed
     → (W : Interpretation) → Follows H W → (h : ℕ → ℕ → Bool) → Meaning W (B .entry) h → (x : ℕ) → x < W .size → Sat h x seed → ⊥
-failure H O B T n k st seed e W F h M = explore-fails H B T W F h M n k st seed e
+failure H B T n k st seed e W F h M = explore-fails H B T W F h M n k st seed e

@@ -1,14 +1,13 @@
 -- Expansions are saturated: entries are taken from the highest down, each adds only lower ones, and so nothing that was
 -- taken is disturbed.
 use mathlib.Core.Path.{_≡_, refl, subst}
-use mathlib.Core.Bool.{Bool, true, false, not, cond, _&&_, _||_}
-use mathlib.Core.List.{List, [], _∷_, _++_}
+use mathlib.Core.Bool.{Bool, true, false, not, cond, _||_}
+use mathlib.Core.List.{List, [], _∷_}
 use mathlib.Core.Logic.{_⊎_, inl, inr, ⊎-elim}
 use Prim.Native.Nat.{ℕ, zero, suc, _+_, _<_, _≤_}
 use native.Mathlib.Omega.{arith}
-use Rattle.std.proofs.shelf.Tests.{cases-bool, cases-eq, and-from, or-cases, or-left, both-ways}
+use Rattle.std.proofs.shelf.Tests.{cases-bool, cases-eq, or-cases, both-ways}
 use Rattle.meaning.specs.declared.Concept.the-variants.{Nothing, Everything, Name, Not, And, Or, Restriction}
-use Rattle.meaning.proofs.Tests.{any-none}
 use Rattle.tableau.specs.declared.Label.{Label}
 use Rattle.tableau.specs.declared.Entry.{Entry}
 use Rattle.tableau.specs.declared.Entry.the-variants.{Plain, Inclusion, Inclusions}
@@ -16,22 +15,14 @@ use Rattle.tableau.specs.declared.Ways.{Ways}
 use Rattle.tableau.specs.declared.Ways.the-variants.{One, Two}
 use Rattle.tableau.specs.Labels.{inLabel, put}
 use Rattle.tableau.specs.Entries.{Table, LowerEntry}
-use Rattle.tableau.specs.Expansions.{absurdEntry, clashAt, clash, oneOf, grown, taken, branch, expand, expansions}
+use Rattle.tableau.specs.Expansions.{clash, oneOf, grown, taken, branch, expand, expansions}
 use Rattle.tableau.proofs.Folding.{fold-keeps, fold-gives}
-use Rattle.tableau.proofs.Labelling.{put-in, put-keeps, put-cases}
-use Rattle.tableau.proofs.Standing.{Saturates, Saturated, Holds}
-
--- the label is one of the list
-abbrev pub In : Label → List Label → Type 0
-In e [] = ⊥
-In e (l ∷ ls) = (l ≡ e) ⊎ In e ls
-
-in-append : (e : Label) (ls ms : List Label) → In e (ls ++ ms) → In e ls ⊎ In e ms
-in-append e [] ms h = inr h
-in-append e (l ∷ ls) ms h = ⊎-elim (λ p. inl (inl p)) (λ p. ⊎-elim (λ q. inl (inr q)) (λ q. inr q) (in-append e ls ms p)) h
+use Rattle.tableau.proofs.Labelling.{put-in, put-keeps, put-cases, Holds}
+use Rattle.tableau.proofs.Clashing.{one-sign}
+use Rattle.tableau.proofs.Standing.{Saturates, Saturated, In, in-append}
 
 -- a label that holds more is saturated for what it was saturated for
-pub saturates-more : (e : Entry) (s : Bool) (l m : Label) → Holds m l → Saturates e s l → Saturates e s m
+saturates-more : (e : Entry) (s : Bool) (l m : Label) → Holds m l → Saturates e s l → Saturates e s m
 saturates-more (Plain Nothing) s l m h u = tt
 saturates-more (Plain Everything) s l m h u = tt
 saturates-more (Plain (Name n)) s l m h u = tt
@@ -47,10 +38,11 @@ saturates-more (Inclusions lo n) true l m h u = λ k p. h true (lo + k) (u k p)
 saturates-more (Inclusions lo n) false l m h u = tt
 
 -- m is l with entries below k besides
-record Grew (k : ℕ) (l m : Label) : Type 0 where
-  holds : Holds m l
-  old : (s : Bool) (i : ℕ) → k ≤ i → inLabel m s i ≡ true → inLabel l s i ≡ true
+pub record Grew (k : ℕ) (l m : Label) : Type 0 where
+  pub holds : Holds m l
+  pub old : (s : Bool) (i : ℕ) → k ≤ i → inLabel m s i ≡ true → inLabel l s i ≡ true
 
+-- nothing, one more, and some after others
 grew-none : (k : ℕ) (l : Label) → Grew k l l
 grew-none k l = record { holds = λ s i h. h; old = λ s i p h. h }
 
@@ -75,43 +67,43 @@ Each-way P (Two l m) = P l × P m
 abbrev Takes : ℕ → Entry → Bool → Label → Label → Type 0
 Takes k e s l m = Grew k l m × Saturates e s m
 
-one-of : (P : Label → Type 0) (b : Bool) (x y l : Label) → (b ≡ true → P l) → P x → P y → Each-way P (oneOf b x y l)
-one-of P true x y l f p q = f refl
-one-of P false x y l f p q = (p, q)
+-- an entry that asks for two
+both : (k : ℕ) (e : Entry) (s t : Bool) (a b : ℕ) (l : Label) → (a < k) × (b < k)
+    → ((m : Label) → (inLabel m t a ≡ true) × (inLabel m t b ≡ true) → Saturates e s m) → Takes k e s l (put t a (put t b l))
+both k e s t a b l low f =
+    let m = put t b l in
+    (grew-put k l m t a (low .0) (grew-put k l l t b (low .1) (grew-none k l)), f (put t a m) (put-in t a m, put-keeps t a m t b (put-in t b l)))
 
-grew-one : (k : ℕ) (l : Label) (s : Bool) (a : ℕ) → a < k → Grew k l (put s a l)
-grew-one k l s a low = grew-put k l l s a low (grew-none k l)
+-- and one that asks for one of two
+either : (k : ℕ) (e : Entry) (s t u : Bool) (a b : ℕ) (l : Label) → (a < k) × (b < k)
+    → ((m : Label) → (inLabel m t a ≡ true) ⊎ (inLabel m u b ≡ true) → Saturates e s m)
+    → Each-way (Takes k e s l) (oneOf (inLabel l t a || inLabel l u b) (put t a l) (put u b l) l)
+either k e s t u a b l low f = go (inLabel l t a || inLabel l u b) refl
+  where
+    go : (h : Bool) → (inLabel l t a || inLabel l u b) ≡ h → Each-way (Takes k e s l) (oneOf h (put t a l) (put u b l) l)
+    go true h = (grew-none k l, f l (or-cases (inLabel l t a) (inLabel l u b) h))
+    go false h = (
+      (grew-put k l l t a (low .0) (grew-none k l), f (put t a l) (inl (put-in t a l))),
+      (grew-put k l l u b (low .1) (grew-none k l), f (put u b l) (inr (put-in u b l))),
+    )
 
-grew-two : (k : ℕ) (l : Label) (s : Bool) (a b : ℕ) → a < k → b < k → Grew k l (put s a (put s b l))
-grew-two k l s a b p q = grew-put k l (put s b l) s a p (grew-one k l s b q)
-
+-- every way of an entry takes it
 grown-takes : (k : ℕ) (e : Entry) (s : Bool) (l : Label) → LowerEntry k e → Each-way (Takes k e s l) (grown e s l)
 grown-takes k (Plain Nothing) s l low = (grew-none k l, tt)
 grown-takes k (Plain Everything) s l low = (grew-none k l, tt)
 grown-takes k (Plain (Name n)) s l low = (grew-none k l, tt)
-grown-takes k (Plain (Not a)) s l low = (grew-one k l (not s) a low, put-in (not s) a l)
-grown-takes k (Plain (And a b)) true l low =
-    (grew-two k l true a b (low .0) (low .1), (put-in true a (put true b l), put-keeps true a (put true b l) true b (put-in true b l)))
-grown-takes k (Plain (And a b)) false l low = one-of (Takes k (Plain (And a b)) false l) (inLabel l false a || inLabel l false b) (put false a l) (put false b l) l
-    (λ h. (grew-none k l, or-cases (inLabel l false a) (inLabel l false b) h))
-    (grew-one k l false a (low .0), inl (put-in false a l))
-    (grew-one k l false b (low .1), inr (put-in false b l))
-grown-takes k (Plain (Or a b)) true l low = one-of (Takes k (Plain (Or a b)) true l) (inLabel l true a || inLabel l true b) (put true a l) (put true b l) l
-    (λ h. (grew-none k l, or-cases (inLabel l true a) (inLabel l true b) h))
-    (grew-one k l true a (low .0), inl (put-in true a l))
-    (grew-one k l true b (low .1), inr (put-in true b l))
-grown-takes k (Plain (Or a b)) false l low =
-    (grew-two k l false a b (low .0) (low .1), (put-in false a (put false b l), put-keeps false a (put false b l) false b (put-in false b l)))
+grown-takes k (Plain (Not a)) s l low = (grew-put k l l (not s) a low (grew-none k l), put-in (not s) a l)
+grown-takes k (Plain (And a b)) true l low = both k (Plain (And a b)) true true a b l low (λ m h. h)
+grown-takes k (Plain (And a b)) false l low = either k (Plain (And a b)) false false false a b l low (λ m h. h)
+grown-takes k (Plain (Or a b)) true l low = either k (Plain (Or a b)) true true true a b l low (λ m h. h)
+grown-takes k (Plain (Or a b)) false l low = both k (Plain (Or a b)) false false a b l low (λ m h. h)
 grown-takes k (Plain (Restriction q r a)) s l low = (grew-none k l, tt)
-grown-takes k (Inclusion c d) true l low = one-of (Takes k (Inclusion c d) true l) (inLabel l false c || inLabel l true d) (put false c l) (put true d l) l
-    (λ h. (grew-none k l, or-cases (inLabel l false c) (inLabel l true d) h))
-    (grew-one k l false c (low .0), inl (put-in false c l))
-    (grew-one k l true d (low .1), inr (put-in true d l))
+grown-takes k (Inclusion c d) true l low = either k (Inclusion c d) true false true c d l low (λ m h. h)
 grown-takes k (Inclusion c d) false l low = (grew-none k l, tt)
 grown-takes k (Inclusions lo n) true l low = (
   fold-keeps (Grew k l) n (λ j. put true (lo + j)) (λ j m p g. grew-put k l m true (lo + j) (omega arith) g) l (grew-none k l),
   (λ j p. fold-gives (λ m. inLabel m true (lo + j) ≡ true) n j (λ j. put true (lo + j)) p (λ m. put-in true (lo + j) m)
-      (λ i m h. put-keeps true (lo + i) m true (lo + j) h) l),
+      (λ i m b h. put-keeps true (lo + i) m true (lo + j) h) l),
 )
 grown-takes k (Inclusions lo n) false l low = (grew-none k l, tt)
 
@@ -121,10 +113,12 @@ record Took (k : ℕ) (e : Entry) (l m : Label) : Type 0 where
   with-plus : inLabel l true k ≡ true → Saturates e true m
   with-minus : inLabel l true k ≡ false → inLabel l false k ≡ true → Saturates e false m
 
+-- what follows from a fact of each way
 each-weaker : (P Q : Label → Type 0) → ((m : Label) → P m → Q m) → (w : Ways) → Each-way P w → Each-way Q w
 each-weaker P Q f (One l) p = f l p
 each-weaker P Q f (Two l m) p = (f l (p .0), f m (p .1))
 
+-- every way of the entry that is taken
 taken-took : (k : ℕ) (e : Entry) (l : Label) → LowerEntry k e → Each-way (Took k e l) (taken e k l)
 unfolding taken
 taken-took k e l low = go (inLabel l true k) refl (inLabel l false k) refl
@@ -148,21 +142,13 @@ unfolding branch
 in-branch P e f (One l) p h = (l, p, h)
 in-branch P e f (Two l m) p h = ⊎-elim (λ q. (l, p .0, q)) (λ q. (m, p .1, q)) (in-append e (f l) (f m) h)
 
--- a label without a clash has not both signs of an entry
-not-both-signs : (B : Table) (l : Label) → clash B l ≡ false → (i : ℕ) → i < B .width → inLabel l true i ≡ true → inLabel l false i ≡ true → ⊥
-unfolding clash
-not-both-signs B l calm i low p q =
-    let none = any-none (B .width) (λ i. clashAt (B .entry i) l i) calm i low in
-    both-ways (clashAt (B .entry i) l i) none
-    (or-left (inLabel l true i && inLabel l false i || inLabel l true i && absurdEntry (B .entry i) true) (inLabel l false i && absurdEntry (B .entry i) false)
-    (or-left (inLabel l true i && inLabel l false i) (inLabel l true i && absurdEntry (B .entry i) true) (and-from (inLabel l true i) (inLabel l false i) p q)))
-
 -- e is an expansion of l by the entries below k
 record Expanded (B : Table) (k : ℕ) (l e : Label) : Type 0 where
   grew : Grew k l e
   calm : clash B e ≡ false
   done : (i : ℕ) (s : Bool) → i < k → i < B .width → inLabel e s i ≡ true → Saturates (B .entry i) s e
 
+-- with no entry left, it is the label itself, if it has no clash
 in-calm : (B : Table) (l e : Label) → In e (cond (clash B l) [] (l ∷ [])) → Expanded B 0 l e
 in-calm B l e h = go (clash B l) refl h
   where
@@ -172,6 +158,7 @@ in-calm B l e h = go (clash B l) refl h
         (λ (same : l ≡ e). subst (Expanded B 0 l) same (record { grew = grew-none 0 l; calm = c; done = λ i s p. absurd (omega arith) }))
         (λ none. absurd none) h
 
+-- one entry more
 expanded-step : (B : Table) (k : ℕ) (l m e : Label) → Took k (B .entry k) l m → Expanded B k m e → Expanded B (suc k) l e
 expanded-step B k l m e t x = record { grew = grew-on k (suc k) l m e (omega arith) (grew-up (t .grew)) (x .grew); calm = x .calm; done = done }
   where
@@ -187,7 +174,7 @@ expanded-step B k l m e t x = record { grew = grew-on k (suc k) l m e (omega ari
     here : (s : Bool) → k < B .width → inLabel e s k ≡ true → Saturates (B .entry k) s e
     here true low h = saturates-more (B .entry k) true m e (x .grew .holds) (t .with-plus (was true h))
     here false low h = ⊎-elim
-        (λ p. absurd (not-both-signs B e (x .calm) k low (now-too true p) h))
+        (λ p. absurd (one-sign B e (x .calm) k low (now-too true p) h))
         (λ p. saturates-more (B .entry k) false m e (x .grew .holds) (t .with-minus p (was false h)))
         (cases-bool (inLabel l true k))
 
@@ -197,6 +184,7 @@ expanded-step B k l m e t x = record { grew = grew-on k (suc k) l m e (omega ari
         (λ other. x .done i s (omega arith) low h)
         (cases-eq k i)
 
+-- each label that is made is such an expansion
 expand-right : (B : Table) → ((i : ℕ) → LowerEntry i (B .entry i)) → (k : ℕ) (l e : Label) → In e (expand B k l) → Expanded B k l e
 unfolding expand
 expand-right B low zero l e h = in-calm B l e h
@@ -204,9 +192,14 @@ expand-right B low (suc k) l e h =
     let w = in-branch (Took k (B .entry k) l) e (expand B k) (taken (B .entry k) k l) (taken-took k (B .entry k) l (low k)) h in
     expanded-step B k l (w .0) e (w .1) (expand-right B low k (w .0) e (w .2))
 
--- every expansion of a seed is saturated and holds the seed
-pub expansions-saturated : (B : Table) → ((i : ℕ) → LowerEntry i (B .entry i)) → (seed e : Label) → In e (expansions B seed) → Saturated B e × Holds e seed
+-- an expansion of a seed is saturated, and is the seed with working entries besides
+pub record Expansion (B : Table) (seed e : Label) : Type 0 where
+  pub full : Saturated B e
+  pub grew : Grew (B .width) seed e
+
+-- and such are all that the search tries
+pub expansions-right : (B : Table) → ((i : ℕ) → LowerEntry i (B .entry i)) → (seed e : Label) → In e (expansions B seed) → Expansion B seed e
 unfolding expansions
-expansions-saturated B low seed e h =
+expansions-right B low seed e h =
     let x = expand-right B low (B .width) seed e h in
-    (record { calm = x .calm; saturated = λ i s l p. x .done i s l l p }, x .grew .holds)
+    record { full = record { calm = x .calm; saturated = λ i s l p. x .done i s l l p }; grew = x .grew }

@@ -1,51 +1,30 @@
 -- What the search leaves standing: each level adds labels to those that stood, all saturated, with every obligation met.
 use mathlib.Core.Path.{_≡_, refl, sym, ap, _∙_, subst}
-use mathlib.Core.Bool.{Bool, true, false, _&&_}
+use mathlib.Core.Bool.{Bool, true, false}
 use mathlib.Core.List.{List, [], _∷_, _++_}
-use mathlib.Core.Logic.{_⊎_, inl, inr, ⊎-elim}
-use Prim.Native.Nat.{ℕ, zero, suc, _+_, _<_, _≤_, _^_}
-use native.Mathlib.Nat.{pow-suc}
+use mathlib.Core.Logic.{inl, inr, ⊎-elim}
+use Prim.Native.Nat.{ℕ, zero, suc, _+_, _<_, _≤_}
 use native.Mathlib.Omega.{arith}
-use lib.Bits.{bitAnd, and-le-l}
-use lib.Dec.{eqb, leb}
+use lib.Dec.{leb}
 use lib.ListN.{length, getD}
 use Rattle.std.specs.shelf.Lists.{All}
 use Rattle.std.proofs.shelf.Elements.{all-append, all-weaker, all-getD}
 use Rattle.std.proofs.shelf.Lists.{append-nil, append-assoc, length-append, getD-at}
-use Rattle.std.proofs.shelf.Tests.{cases-eq, and-from, eq-eqb}
-use Rattle.words.specs.Sets.{has}
-use Rattle.words.proofs.Words.{has-and, same-set}
+use Rattle.std.proofs.shelf.Tests.{cases-eq}
 use Rattle.meaning.specs.Orders.{RoleBox}
 use Rattle.tableau.specs.declared.Label.{Label}
 use Rattle.tableau.specs.declared.Obligation.{Obligation}
 use Rattle.tableau.specs.declared.Obligation.the-variants.{Idle, Wants}
-use Rattle.tableau.specs.Labels.{empty, inLabel, contains, anyContains}
+use Rattle.tableau.specs.Labels.{empty, contains, anyContains}
 use Rattle.tableau.specs.Entries.{Table, LowerEntry}
 use Rattle.tableau.specs.Expansions.{expansions}
 use Rattle.tableau.specs.Seeds.{obligationAt, seedOf}
-use Rattle.tableau.specs.Search.{Outcome, failed, full, stands, Searcher, orElse, andThen, reuse, pursue, meetFrom, tryEach, enter, explore}
-use Rattle.tableau.proofs.Labelling.{any-grows, any-at}
-use Rattle.tableau.proofs.Standing.{Saturated, Stands, Holds}
-use Rattle.tableau.proofs.Growing.{In, expansions-saturated}
-
-below-power : (n : ℕ) → n < 2 ^ n
-below-power zero = omega arith
-below-power (suc n) = omega (arith, below-power n, pow-suc 2 n)
-
-within : (a b : ℕ) → ((k : ℕ) → has a k ≡ true → has b k ≡ true) → eqb (bitAnd a b) a ≡ true
-within a b w =
-    eq-eqb (bitAnd a b) a (same-set a (bitAnd a b) a (omega (arith, and-le-l a b, below-power a)) (below-power a) (λ k h. has-and a b k ∙ kept (has a k) (has b k) (w k)))
-  where
-    kept : (x y : Bool) → (x ≡ true → y ≡ true) → (x && y) ≡ x
-    kept true y f = f refl
-    kept false y f = refl
-
--- a label that holds what the seed holds contains it
-pub contains-from : (l seed : Label) → Holds l seed → contains l seed ≡ true
-unfolding inLabel contains
-contains-from l seed h =
-    and-from (eqb (bitAnd (seed .plus) (l .plus)) (seed .plus)) (eqb (bitAnd (seed .minus) (l .minus)) (seed .minus))
-    (within (seed .plus) (l .plus) (h true)) (within (seed .minus) (l .minus) (h false))
+use Rattle.tableau.specs.Search.{full, stands, Searcher, reuse, pursue, meetFrom, tryEach, enter, explore}
+use Rattle.tableau.proofs.Tests.{never}
+use Rattle.tableau.proofs.Labelling.{Holds, contains-from, any-grows, any-at}
+use Rattle.tableau.proofs.Outcomes.{then-cases, else-cases}
+use Rattle.tableau.proofs.Standing.{Saturated, Stands, In}
+use Rattle.tableau.proofs.Growing.{Expansion, expansions-right}
 
 -- the label is saturated, has P, and the seed of each of its obligations is contained in a label of the list
 record Fine (H : RoleBox) (B : Table) (P : Label → Type 0) (ls : List Label) (l : Label) : Type 0 where
@@ -79,18 +58,7 @@ pub record Left (H : RoleBox) (B : Table) (P : Label → Type 0) (seed : Label) 
   pub root : Holds (getD ls 0 empty) seed
   pub each : (x : ℕ) → x < length ls → P (getD ls x empty)
 
-and-then : (o : Outcome) (next : List Label → Outcome) (ls : List Label) → andThen o next ≡ stands ls → (ms : List Label) × (o ≡ stands ms) × (next ms ≡ stands ls)
-unfolding andThen
-and-then failed next ls e = absurd (let z : _≡_ {A = ℕ} 0 1 = cc in omega arith)
-and-then full next ls e = absurd (let z : _≡_ {A = ℕ} 0 1 = cc in omega arith)
-and-then (stands ms) next ls e = (ms, refl, e)
-
-or-else : (o : Outcome) (next : Unit {0} → Outcome) (ls : List Label) → orElse o next ≡ stands ls → (o ≡ stands ls) ⊎ (next tt ≡ stands ls)
-unfolding orElse
-or-else failed next ls e = inr e
-or-else full next ls e = absurd (let z : _≡_ {A = ℕ} 0 1 = cc in omega arith)
-or-else (stands ms) next ls e = inl e
-
+-- what stands is one list
 same-labels : (ms ls : List Label) → stands ms ≡ stands ls → ms ≡ ls
 same-labels ms ls e = cc
 
@@ -99,6 +67,7 @@ module _ (H : RoleBox) (B : Table) (P : Label → Type 0) where
   any-added : (st ls : List Label) → Added H B P st ls → (seed : Label) → anyContains st seed ≡ true → anyContains ls seed ≡ true
   any-added st ls a seed e = subst (λ zs. anyContains zs seed ≡ true) (sym (a .are)) (any-grows st (a .more) seed e)
 
+  -- and what was fine is fine
   fine-added : (st ls : List Label) → Added H B P st ls → (l : Label) → Fine H B P st l → Fine H B P ls l
   fine-added st ls a l f = record {
     filled = f .filled;
@@ -106,6 +75,7 @@ module _ (H : RoleBox) (B : Table) (P : Label → Type 0) where
     met = λ i r q s low e. any-added st ls a (seedOf H B l r s q) (f .met i r q s low e);
   }
 
+  -- adding nothing, the same, and some after others
   added-none : (st : List Label) → Added H B P st st
   added-none st = record { more = []; are = sym (append-nil st); fine = tt }
 
@@ -119,6 +89,7 @@ module _ (H : RoleBox) (B : Table) (P : Label → Type 0) where
     fine = all-append (Fine H B P ls) (a .more) (b .more) (all-weaker (Fine H B P ms) (Fine H B P ls) (fine-added ms ls b) (a .more) (a .fine)) (b .fine);
   }
 
+  -- a node that was found is added
   rooted-added : (st : List Label) (seed : Label) (ls : List Label) → Rooted H B P st seed ls → Added H B P st ls
   rooted-added st seed ls r = record { more = r .top ∷ r .rest; are = r .are; fine = r .fine }
 
@@ -137,58 +108,67 @@ module _ (H : RoleBox) (B : Table) (P : Label → Type 0) where
 
   module _ (low : (i : ℕ) → LowerEntry i (B .entry i)) (kept : (l m : Label) → Holds m l → P l → P m)
       (passed : (l : Label) (i r a : ℕ) (s : Bool) → i < B .width → obligationAt B l i ≡ Wants r s a → P l → P (seedOf H B l r s a)) (sub : Searcher) (good : Leaves sub) where
+    -- a reused label contains the seed, and so does a new one
     reuse-leaves : (b : Bool) (st : List Label) (seed : Label) → anyContains st seed ≡ b → P seed → (ls : List Label) → reuse b sub st seed ≡ stands ls
         → Added H B P st ls × (anyContains ls seed ≡ true)
     unfolding reuse
     reuse-leaves true st seed h p ls e = let a = added-same st ls (same-labels st ls e) in (a, any-added st ls a seed h)
     reuse-leaves false st seed h p ls e = let r = good st seed ls p e in (rooted-added st seed ls r, any-rooted st seed ls r)
 
+    -- an obligation leaves its seed contained
     pursue-leaves : (l : Label) → P l → (i : ℕ) → i < B .width → (o : Obligation) → obligationAt B l i ≡ o → (st ls : List Label) → pursue H B sub l o st ≡ stands ls → Added H B P st ls × Meets H B l ls o
     unfolding pursue
     pursue-leaves l p i m Idle w st ls e = (added-same st ls (same-labels st ls e), tt)
     pursue-leaves l p i m (Wants r s a) w st ls e = reuse-leaves (anyContains st (seedOf H B l r s a)) st (seedOf H B l r s a) refl (passed l i r a s m w p) ls e
 
+    -- what was met stays met
     meets-added : (st ls : List Label) → Added H B P st ls → (l : Label) (o : Obligation) → Meets H B l st o → Meets H B l ls o
     meets-added st ls a l Idle m = tt
     meets-added st ls a l (Wants r s b) m = any-added st ls a (seedOf H B l r s b) m
 
+    -- and so do several, one after another
     meet-leaves : (l : Label) → P l → (d i : ℕ) → i + d ≤ B .width → (st ls : List Label) → meetFrom H B sub l d i st ≡ stands ls
         → Added H B P st ls × ((j : ℕ) → i ≤ j → j < i + d → Meets H B l ls (obligationAt B l j))
     unfolding meetFrom
-    meet-leaves l p zero i m st ls e = (added-same st ls (same-labels st ls e), λ j x y. absurd (omega arith))
-    meet-leaves l p (suc d) i m st ls e =
-        let t = and-then (pursue H B sub l (obligationAt B l i) st) (meetFrom H B sub l d (suc i)) ls e in
-        let u = pursue-leaves l p i (omega arith) (obligationAt B l i) refl st (t .0) (t .1) in
-        let v = meet-leaves l p d (suc i) (omega arith) (t .0) ls (t .2) in (
-          added-on st (t .0) ls (u .0) (v .0),
+    meet-leaves l p zero i m st ls = λ e. (added-same st ls (same-labels st ls e), λ j x y. absurd (omega arith))
+    meet-leaves l p (suc d) i m st ls =
+        then-cases (λ o. o ≡ stands ls → Added H B P st ls × ((j : ℕ) → i ≤ j → j < i + suc d → Meets H B l ls (obligationAt B l j)))
+        (pursue H B sub l (obligationAt B l i) st) (meetFrom H B sub l d (suc i)) (λ o e. never cc) (λ o e. never cc)
+        (λ ms o e.
+        let u = pursue-leaves l p i (omega arith) (obligationAt B l i) refl st ms o in
+        let v = meet-leaves l p d (suc i) (omega arith) ms ls e in (
+          added-on st ms ls (u .0) (v .0),
           λ j x y. ⊎-elim
-              (λ (same : i ≡ j). subst (λ j. Meets H B l ls (obligationAt B l j)) same (meets-added (t .0) ls (v .0) l (obligationAt B l i) (u .1)))
+              (λ (same : i ≡ j). subst (λ j. Meets H B l ls (obligationAt B l j)) same (meets-added ms ls (v .0) l (obligationAt B l i) (u .1)))
               (λ other. v .1 j (omega arith) (omega arith))
               (cases-eq i j),
-        )
+        ))
 
     -- the node's own label comes first, and then what its obligations led to
-    node-leaves : (st : List Label) (seed l : Label) → P seed → Saturated B l → Holds l seed
+    node-leaves : (st : List Label) (seed l : Label) → P seed → Expansion B seed l
         → (ls : List Label) → meetFrom H B sub l (B .width) 0 (st ++ l ∷ []) ≡ stands ls → Rooted H B P st seed ls
-    node-leaves st seed l p full-up holds ls e =
-        let q = kept seed l holds p in
+    node-leaves st seed l p x ls e =
+        let q = kept seed l (x .grew .holds) p in
         let m = meet-leaves l q (B .width) 0 (omega arith) (st ++ l ∷ []) ls e in
-        let own : Fine H B P ls l = record { filled = full-up; own = q; met = λ i r a s low w. subst (Meets H B l ls) w (m .1 i (omega arith) (omega arith)) } in
-        record { top = l; rest = m .0 .more; are = m .0 .are ∙ append-assoc st (l ∷ []) (m .0 .more); fine = (own, m .0 .fine); root = holds }
+        let own : Fine H B P ls l = record { filled = x .full; own = q; met = λ i r a s low w. subst (Meets H B l ls) w (m .1 i (omega arith) (omega arith)) } in
+        record { top = l; rest = m .0 .more; are = m .0 .are ∙ append-assoc st (l ∷ []) (m .0 .more); fine = (own, m .0 .fine); root = x .grew .holds }
 
-    try-leaves : (st : List Label) (seed : Label) → P seed → (es : List Label) → ((e : Label) → In e es → Saturated B e × Holds e seed)
+    -- the first expansion that does not fail leaves its node
+    try-leaves : (st : List Label) (seed : Label) → P seed → (es : List Label) → ((e : Label) → In e es → Expansion B seed e)
         → (ls : List Label) → tryEach H B sub st es ≡ stands ls → Rooted H B P st seed ls
     unfolding tryEach
-    try-leaves st seed p [] right ls e = absurd (let z : _≡_ {A = ℕ} 0 1 = cc in omega arith)
-    try-leaves st seed p (l ∷ es) right ls e = ⊎-elim
-        (λ this. node-leaves st seed l p (right l (inl refl) .0) (right l (inl refl) .1) ls this)
-        (λ later. try-leaves st seed p es (λ m h. right m (inr h)) ls later)
-        (or-else (meetFrom H B sub l (B .width) 0 (st ++ l ∷ [])) (λ u. tryEach H B sub st es) ls e)
+    try-leaves st seed p [] right ls = λ e. never cc
+    try-leaves st seed p (l ∷ es) right ls =
+        else-cases (λ o. o ≡ stands ls → Rooted H B P st seed ls) (meetFrom H B sub l (B .width) 0 (st ++ l ∷ [])) (λ u. tryEach H B sub st es)
+        (λ o later. try-leaves st seed p es (λ m h. right m (inr h)) ls later)
+        (λ o e. never cc)
+        (λ ms o e. node-leaves st seed l p (right l (inl refl)) ls (o ∙ e))
 
+    -- and so does the search for a node
     enter-leaves : (b : Bool) (st : List Label) (seed : Label) (ls : List Label) → P seed → enter H B b sub st seed ≡ stands ls → Rooted H B P st seed ls
     unfolding enter
-    enter-leaves true st seed ls p e = absurd (let z : _≡_ {A = ℕ} 0 1 = cc in omega arith)
-    enter-leaves false st seed ls p e = try-leaves st seed p (expansions B seed) (expansions-saturated B low seed) ls e
+    enter-leaves true st seed ls p e = never cc
+    enter-leaves false st seed ls p e = try-leaves st seed p (expansions B seed) (expansions-right B low seed) ls e
 
 -- from no label, what is left is what was added
 left : (H : RoleBox) (B : Table) (P : Label → Type 0) (seed : Label) (ls : List Label) → Rooted H B P [] seed ls → Left H B P seed ls
@@ -202,12 +182,13 @@ left H B P seed ls r = record {
     fine-at : (x : ℕ) → x < length ls → Fine H B P ls (getD ls x empty)
     fine-at x h = all-getD (Fine H B P ls) ls x empty h (subst (All (Fine H B P ls)) (sym (r .are)) (r .fine))
 
+-- at every depth
 explore-leaves : (H : RoleBox) (B : Table) → ((i : ℕ) → LowerEntry i (B .entry i)) → (P : Label → Type 0)
     → ((l m : Label) → Holds m l → P l → P m)
     → ((l : Label) (i r a : ℕ) (s : Bool) → i < B .width → obligationAt B l i ≡ Wants r s a → P l → P (seedOf H B l r s a))
     → (n k : ℕ) → Leaves H B P (explore H B n k)
 unfolding explore
-explore-leaves H B low P kept passed n zero st seed ls p e = absurd (let z : _≡_ {A = ℕ} 0 1 = cc in omega arith)
+explore-leaves H B low P kept passed n zero st seed ls p e = never cc
 explore-leaves H B low P kept passed n (suc k) st seed ls p e =
     enter-leaves H B P low kept passed (explore H B n k) (explore-leaves H B low P kept passed n k) (leb n (length st)) st seed ls p e
 

@@ -11,6 +11,7 @@ use Rattle.std.proofs.shelf.Tests.{cases-bool, eqb-true, eqb-false, cond-true, 
 replaced : (c m : ℕ) (f : ℕ → ℕ) → ℕ → ℕ
 replaced c m f i = cond (eqb (f i) c) (f m) (f i)
 
+-- what it is then
 replaced-is : (c m : ℕ) (f : ℕ → ℕ) (i : ℕ) → ((f i ≡ c) × (replaced c m f i ≡ f m)) ⊎ ((f i ≡ c → ⊥) × (replaced c m f i ≡ f i))
 unfolding replaced
 replaced-is c m f i = ⊎-elim
@@ -18,6 +19,7 @@ replaced-is c m f i = ⊎-elim
     (λ h. inr (eqb-false (f i) c h, cond-false (eqb (f i) c) (f m) (f i) h))
     (cases-bool (eqb (f i) c))
 
+-- one number less below one bound less
 pub pigeons : (c m : ℕ) (f : ℕ → ℕ) → ((i : ℕ) → i < m → f i < c) → ((i j : ℕ) → i < j → j < m → f i ≡ f j → ⊥) → m ≤ c
 pigeons c zero f below apart = omega arith
 pigeons zero (suc m) f below apart = absurd (omega (arith, below 0 (omega arith)))

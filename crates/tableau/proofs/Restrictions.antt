@@ -1,17 +1,18 @@
 -- What a signed restriction says of the successors of an individual.
-use mathlib.Core.Path.{_≡_, refl, sym, ap, _∙_}
+use mathlib.Core.Path.{_≡_, refl}
 use mathlib.Core.Bool.{Bool, true, false, not, _&&_, _||_}
-use mathlib.Core.Logic.{_⊎_, inl, inr, ⊎-elim}
+use mathlib.Core.Logic.{⊎-elim}
 use Prim.Native.Nat.{ℕ, zero, suc, _<_}
 use native.Mathlib.Omega.{arith}
-use Rattle.std.proofs.shelf.Tests.{cases-bool, and-parts, and-from, or-cases, or-parts, or-left, or-right, both-ways, not-true, not-false, and-cases, or-from, not-from-true, not-from-false}
-use Rattle.meaning.specs.Bounded.{any, all}
+use Rattle.std.proofs.shelf.Tests.{cases-bool, and-parts, and-from, or-parts, both-ways, not-true, not-false, and-cases, or-from, not-from-true, not-from-false}
+use Rattle.meaning.specs.Bounded.{all}
 use Rattle.meaning.specs.Worlds.{Interpretation, denotes}
 use Rattle.meaning.specs.declared.Concept.the-variants.{Restriction}
 use Rattle.meaning.specs.declared.Quantifier.{Quantifier}
 use Rattle.meaning.specs.declared.Quantifier.the-variants.{Exists, Forall, NoneOf}
 use Rattle.meaning.proofs.Tests.{any-from, any-some, any-none, none-any, all-from, all-at}
 use Rattle.tableau.specs.Seeds.{obliges, signOf}
+use Rattle.tableau.proofs.Tests.{implied, implies, excluded, excludes}
 
 -- where `all` fails, the test fails somewhere
 all-fails : (n : ℕ) (p : ℕ → Bool) → all n p ≡ false → (k : ℕ) × (k < n) × (p k ≡ false)
@@ -25,23 +26,6 @@ all-fails (suc n) p e = ⊎-elim
 -- and where it fails somewhere, `all` fails
 fails-all : (n k : ℕ) (p : ℕ → Bool) → k < n → p k ≡ false → all n p ≡ false
 fails-all n k p l e = ⊎-elim (λ h. absurd (both-ways (p k) e (all-at n p h k l))) (λ h. h) (cases-bool (all n p))
-
-not-both : (x y : Bool) → (x && y) ≡ false → x ≡ true → y ≡ false
-not-both true y e h = e
-not-both false y e h = absurd (both-ways false refl h)
-
-or-other : (x y : Bool) → (not x || y) ≡ true → x ≡ true → y ≡ true
-or-other true y e h = e
-or-other false y e h = absurd (both-ways false refl h)
-
--- what holds of y wherever x holds
-and-none : (x y : Bool) → (x ≡ true → y ≡ false) → (x && y) ≡ false
-and-none true y f = f refl
-and-none false y f = refl
-
-or-all : (x y : Bool) → (x ≡ true → y ≡ true) → (not x || y) ≡ true
-or-all true y f = f refl
-or-all false y f = refl
 
 module _ (W : Interpretation) (r a x : ℕ) (h : ℕ → ℕ → Bool) where
   -- an obligation that holds has a successor
@@ -67,10 +51,10 @@ module _ (W : Interpretation) (r a x : ℕ) (h : ℕ → ℕ → Bool) where
   pub restricted : (q : Quantifier) (s : Bool) → obliges q s ≡ false → denotes W (Restriction q r a) h x ≡ s
       → (y : ℕ) → y < W .size → W .joins r x y ≡ true → h a y ≡ signOf q s
   restricted Exists true o e y l j = absurd (both-ways true o refl)
-  restricted Exists false o e y l j = not-both (W .joins r x y) (h a y) (any-none (W .size) (λ y. W .joins r x y && h a y) e y l) j
-  restricted Forall true o e y l j = or-other (W .joins r x y) (h a y) (all-at (W .size) (λ y. not (W .joins r x y) || h a y) e y l) j
+  restricted Exists false o e y l j = excluded (W .joins r x y) (h a y) (any-none (W .size) (λ y. W .joins r x y && h a y) e y l) j
+  restricted Forall true o e y l j = implied (W .joins r x y) (h a y) (all-at (W .size) (λ y. not (W .joins r x y) || h a y) e y l) j
   restricted Forall false o e y l j = absurd (both-ways true o refl)
-  restricted NoneOf true o e y l j = not-true (h a y) (or-other (W .joins r x y) (not (h a y)) (all-at (W .size) (λ y. not (W .joins r x y) || not (h a y)) e y l) j)
+  restricted NoneOf true o e y l j = not-true (h a y) (implied (W .joins r x y) (not (h a y)) (all-at (W .size) (λ y. not (W .joins r x y) || not (h a y)) e y l) j)
   restricted NoneOf false o e y l j = absurd (both-ways true o refl)
 
   -- and the converses
@@ -87,9 +71,9 @@ module _ (W : Interpretation) (r a x : ℕ) (h : ℕ → ℕ → Bool) where
   pub restrict : (q : Quantifier) (s : Bool) → obliges q s ≡ false → ((y : ℕ) → y < W .size → W .joins r x y ≡ true → h a y ≡ signOf q s)
       → denotes W (Restriction q r a) h x ≡ s
   restrict Exists true o f = absurd (both-ways true o refl)
-  restrict Exists false o f = none-any (W .size) (λ y. W .joins r x y && h a y) (λ y l. and-none (W .joins r x y) (h a y) (f y l))
-  restrict Forall true o f = all-from (W .size) (λ y. not (W .joins r x y) || h a y) (λ y l. or-all (W .joins r x y) (h a y) (f y l))
+  restrict Exists false o f = none-any (W .size) (λ y. W .joins r x y && h a y) (λ y l. excludes (W .joins r x y) (h a y) (f y l))
+  restrict Forall true o f = all-from (W .size) (λ y. not (W .joins r x y) || h a y) (λ y l. implies (W .joins r x y) (h a y) (f y l))
   restrict Forall false o f = absurd (both-ways true o refl)
   restrict NoneOf true o f =
-      all-from (W .size) (λ y. not (W .joins r x y) || not (h a y)) (λ y l. or-all (W .joins r x y) (not (h a y)) (λ j. not-from-false (h a y) (f y l j)))
+      all-from (W .size) (λ y. not (W .joins r x y) || not (h a y)) (λ y l. implies (W .joins r x y) (not (h a y)) (λ j. not-from-false (h a y) (f y l j)))
   restrict NoneOf false o f = absurd (both-ways true o refl)

@@ -1,41 +1,37 @@
 -- Room: the labels that stand are different sets of signed entries, and 3 ^ width nodes are enough for them.
 use mathlib.Core.Path.{_≡_, refl, sym, ap, _∙_, subst}
-use mathlib.Core.Bool.{Bool, true, false, not, cond, _&&_}
+use mathlib.Core.Bool.{Bool, true, false, cond}
 use mathlib.Core.List.{List, [], _∷_, _++_}
-use mathlib.Core.Logic.{⊎-elim}
-use Prim.Native.Nat.{ℕ, zero, suc, _+_, _-_, _*_, _/_, _^_, _<_, _≤_}
+use mathlib.Core.Logic.{inl, inr, ⊎-elim}
+use Prim.Native.Nat.{ℕ, zero, suc, _+_, _-_, _*_, _^_, _<_, _≤_}
 use native.Mathlib.Nat.{pow-suc}
 use native.Mathlib.Omega.{arith}
 use lib.Dec.{leb}
 use lib.ListN.{length, getD}
-use lib.Pow.{pow-mono}
 use Rattle.std.specs.shelf.Lists.{All}
-use Rattle.std.proofs.shelf.Bits.{pow-pos}
-use Rattle.std.proofs.shelf.Elements.{all-append, all-getD, all-push, all-weaker}
+use Rattle.std.proofs.shelf.Elements.{all-getD, all-push}
 use Rattle.std.proofs.shelf.Lists.{getD-append-left, getD-push, length-push}
-use Rattle.std.proofs.shelf.Tests.{cases-bool, cases-eq, and-from, or-parts, both-ways, cond-both, leb-true}
-use Rattle.words.specs.Sets.{has}
-use Rattle.words.proofs.Words.{has-none, has-next, same-set, subset-from}
+use Rattle.std.proofs.shelf.Tests.{cases-lt, cases-eq, both-ways, leb-true}
 use Rattle.meaning.specs.Orders.{RoleBox}
-use Rattle.meaning.specs.declared.Concept.the-variants.{Nothing, Everything, Name, Not, And, Or, Restriction}
-use Rattle.meaning.proofs.Tests.{any-none}
+use Rattle.meaning.specs.declared.Concept.the-variants.{Restriction}
+use Rattle.meaning.specs.declared.Quantifier.{Quantifier}
 use Rattle.tableau.specs.declared.Label.{Label}
-use Rattle.tableau.specs.declared.Entry.{Entry}
-use Rattle.tableau.specs.declared.Entry.the-variants.{Plain, Inclusion, Inclusions}
-use Rattle.tableau.specs.declared.Ways.{Ways}
-use Rattle.tableau.specs.declared.Ways.the-variants.{One, Two}
+use Rattle.tableau.specs.declared.Entry.the-variants.{Plain}
 use Rattle.tableau.specs.declared.Obligation.{Obligation}
 use Rattle.tableau.specs.declared.Obligation.the-variants.{Idle, Wants}
-use Rattle.tableau.specs.Folds.{fold}
-use Rattle.tableau.specs.Labels.{empty, inLabel, put, contains, anyContains}
-use Rattle.tableau.specs.Entries.{Table, LowerEntry, Tabled}
-use Rattle.tableau.specs.Expansions.{clashAt, clash, oneOf, grown, taken, branch, expand, expansions}
-use Rattle.tableau.specs.Seeds.{obliges, signOf, obligation, obligationAt, roleOf, tellPropagated, tellOn, tellEntry, tell, seedOf}
-use Rattle.tableau.specs.Search.{Outcome, failed, full, stands, Searcher, orElse, andThen, reuse, pursue, meetFrom, tryEach, enter, explore}
-use Rattle.tableau.proofs.Folding.{fold-keeps}
-use Rattle.tableau.proofs.Labelling.{in-empty, put-in, put-keeps, put-cases, any-at}
+use Rattle.tableau.specs.Labels.{empty, inLabel, put, anyContains}
+use Rattle.tableau.specs.Entries.{Table, LowerEntry}
+use Rattle.tableau.specs.Expansions.{clash, expansions}
+use Rattle.tableau.specs.Seeds.{signOf, obligationAt, seedOf}
+use Rattle.tableau.specs.Search.{Outcome, failed, full, stands, Searcher, reuse, pursue, meetFrom, tryEach, enter, explore}
+use Rattle.tableau.proofs.Labelling.{in-empty, put-cases, Holds, contains-from, any-at}
+use Rattle.tableau.proofs.Clashing.{one-sign}
+use Rattle.tableau.proofs.Obligations.{obliging-at}
+use Rattle.tableau.proofs.Outcomes.{then-cases, else-cases}
+use Rattle.tableau.proofs.Standing.{In}
+use Rattle.tableau.proofs.Growing.{Expansion, expansions-right}
+use Rattle.tableau.proofs.Telling.{seed-stays, seed-part}
 use Rattle.tableau.proofs.Pigeons.{pigeons}
-use Rattle.tableau.proofs.Standing.{Holds}
 
 -- each signed entry of the label is below w
 abbrev pub Narrow : ℕ → Label → Type 0
@@ -45,164 +41,24 @@ Narrow w l = (s : Bool) (i : ℕ) → inLabel l s i ≡ true → i < w
 abbrev pub Holding : Label → Type 0
 Holding l = (s : Bool) × (i : ℕ) × (inLabel l s i ≡ true)
 
-less-than-power : (n : ℕ) → n < 2 ^ n
-less-than-power zero = omega arith
-less-than-power (suc n) = let e = pow-suc 2 n in let h = less-than-power n in omega arith
+-- what is put in below w keeps a label narrow
+narrow-put : (w : ℕ) (s : Bool) (i : ℕ) (l : Label) → i < w → Narrow w l → Narrow w (put s i l)
+narrow-put w s i l b n t j e = ⊎-elim (λ p. omega (arith, p .1)) (λ q. n t j q) (put-cases s i l t j e)
 
--- a number whose members are below w is below 2 ^ w
-members-below : (w n : ℕ) → ((k : ℕ) → has n k ≡ true → k < w) → n < 2 ^ w
-members-below zero n m =
-    let none : n ≡ 0 = same-set n n 0 (less-than-power n) (pow-pos n) (λ k h. ⊎-elim (λ y. absurd (omega (arith, m k y))) (λ y. y ∙ sym (has-none k)) (cases-bool (has n k))) in
-    omega arith
-members-below (suc w) n m =
-    let e = pow-suc 2 w in
-    let half = members-below w (n / 2) (λ k y. omega (arith, m (suc k) (has-next n k ∙ y))) in
-    omega arith
+-- an expansion of a narrow seed is narrow
+narrow-expansion : (B : Table) (seed e : Label) → Narrow (B .width) seed → Expansion B seed e → Narrow (B .width) e
+narrow-expansion B seed e n x s i h = ⊎-elim (λ l. l) (λ g. n s i (x .grew .old s i g h)) (cases-lt i (B .width))
 
--- a label that holds what the seed holds contains it
-pub contains-from : (w : ℕ) → w ≤ 64 → (l seed : Label) → Narrow w l → Narrow w seed → Holds l seed → contains l seed ≡ true
-unfolding inLabel contains
-contains-from w few l seed p q h =
-    let b : 2 ^ w ≤ 2 ^ 64 = pow-mono few in
-    and-from _ _
-    (subset-from (seed .plus) (l .plus) (omega (arith, members-below w (seed .plus) (q true))) (omega (arith, members-below w (l .plus) (p true))) (h true))
-    (subset-from (seed .minus) (l .minus) (omega (arith, members-below w (seed .minus) (q false))) (omega (arith, members-below w (l .minus) (p false))) (h false))
-
--- what is not lost when an entry below w is put in
-abbrev pub Stays : ℕ → (Label → Type 0) → Type 0
-Stays w P = (s : Bool) (i : ℕ) (l : Label) → i < w → P l → P (put s i l)
-
-pub narrow-stays : (w : ℕ) → Stays w (Narrow w)
-narrow-stays w s i l b n t j e = ⊎-elim (λ p. omega (arith, p .1)) (λ q. n t j q) (put-cases s i l t j e)
-
-pub narrow-empty : (w : ℕ) → Narrow w empty
-narrow-empty w s i e = absurd (both-ways (inLabel empty s i) (in-empty s i) e)
-
-pub holds-stays : (w : ℕ) (seed : Label) → Stays w (λ l. Holds l seed)
-holds-stays w seed s i l b h t j e = put-keeps s i l t j (h t j e)
-
-abbrev EachWay : (Label → Type 0) → Ways → Type 0
-EachWay P (One l) = P l
-EachWay P (Two l m) = P l × P m
-
--- an obligation's part is below w
-abbrev Parted : ℕ → Obligation → Type 0
-Parted w Idle = Unit {0}
-Parted w (Wants r s a) = a < w
-
-obligation-part : (w i : ℕ) (e : Entry) (s : Bool) → LowerEntry i e → i < w → Parted w (obligation e s)
-obligation-part w i (Plain Nothing) s low b = tt
-obligation-part w i (Plain Everything) s low b = tt
-obligation-part w i (Plain (Name n)) s low b = tt
-obligation-part w i (Plain (Not a)) s low b = tt
-obligation-part w i (Plain (And c d)) s low b = tt
-obligation-part w i (Plain (Or c d)) s low b = tt
-obligation-part w i (Plain (Restriction q r a)) s low b = cond-both (obliges q s) (Wants r (signOf q s) a) Idle (Parted w) (λ h. omega arith) (λ h. tt)
-obligation-part w i (Inclusion c d) s low b = tt
-obligation-part w i (Inclusions lo n) s low b = tt
-
-module _ (B : Table) (lower : (i : ℕ) → LowerEntry i (B .entry i)) where
-  part-below : (l : Label) → Narrow (B .width) l → (i : ℕ) → Parted (B .width) (obligationAt B l i)
-  part-below l p i =
-      cond-both (inLabel l true i) (obligation (B .entry i) true) (cond (inLabel l false i) (obligation (B .entry i) false) Idle) (Parted (B .width))
-      (λ h. obligation-part (B .width) i (B .entry i) true (lower i) (p true i h))
-      (λ _. cond-both (inLabel l false i) (obligation (B .entry i) false) Idle (Parted (B .width)) (λ h. obligation-part (B .width) i (B .entry i) false (lower i) (p false i h)) (λ _. tt))
-
-  module _ (P : Label → Type 0) (stays : Stays (B .width) P) where
-    one-of : (b : Bool) (x y l : Label) → P x → P y → P l → EachWay P (oneOf b x y l)
-    one-of true x y l p q r = r
-    one-of false x y l p q r = (p, q)
-
-    grown-stays : (i : ℕ) (e : Entry) (s : Bool) (l : Label) → LowerEntry i e → i < B .width → P l → EachWay P (grown e s l)
-    grown-stays i (Plain Nothing) s l low b p = p
-    grown-stays i (Plain Everything) s l low b p = p
-    grown-stays i (Plain (Name n)) s l low b p = p
-    grown-stays i (Plain (Not a)) s l low b p = stays (not s) a l (omega arith) p
-    grown-stays i (Plain (And c d)) true l low b p = stays true c (put true d l) (omega arith) (stays true d l (omega arith) p)
-    grown-stays i (Plain (And c d)) false l low b p = one-of _ _ _ _ (stays false c l (omega arith) p) (stays false d l (omega arith) p) p
-    grown-stays i (Plain (Or c d)) true l low b p = one-of _ _ _ _ (stays true c l (omega arith) p) (stays true d l (omega arith) p) p
-    grown-stays i (Plain (Or c d)) false l low b p = stays false c (put false d l) (omega arith) (stays false d l (omega arith) p)
-    grown-stays i (Plain (Restriction q r a)) s l low b p = p
-    grown-stays i (Inclusion c d) true l low b p = one-of _ _ _ _ (stays false c l (omega arith) p) (stays true d l (omega arith) p) p
-    grown-stays i (Inclusion c d) false l low b p = p
-    grown-stays i (Inclusions lo n) true l low b p = fold-keeps P n (λ k. put true (lo + k)) (λ k m h q. stays true (lo + k) m (omega arith) q) l p
-    grown-stays i (Inclusions lo n) false l low b p = p
-
-    taken-stays : (k : ℕ) (l : Label) → k < B .width → P l → EachWay P (taken (B .entry k) k l)
-    unfolding taken
-    taken-stays k l b p =
-        cond-both (inLabel l true k) (grown (B .entry k) true l) (cond (inLabel l false k) (grown (B .entry k) false l) (One l)) (EachWay P)
-        (λ h. grown-stays k (B .entry k) true l (lower k) b p)
-        (λ _. cond-both (inLabel l false k) (grown (B .entry k) false l) (One l) (EachWay P) (λ h. grown-stays k (B .entry k) false l (lower k) b p) (λ _. p))
-
-    branch-all : (Q : Label → Type 0) (f : Label → List Label) → ((l : Label) → P l → All Q (f l)) → (u : Ways) → EachWay P u → All Q (branch f u)
-    unfolding branch
-    branch-all Q f each (One l) p = each l p
-    branch-all Q f each (Two l m) p = all-append Q (f l) (f m) (each l (p .0)) (each m (p .1))
-
-    expand-stays : (k : ℕ) (l : Label) → k ≤ B .width → P l → All (λ e. P e × (clash B e ≡ false)) (expand B k l)
-    unfolding expand
-    expand-stays zero l b p = cond-both (clash B l) [] (l ∷ []) (All (λ e. P e × (clash B e ≡ false))) (λ _. tt) (λ h. ((p, h), tt))
-    expand-stays (suc k) l b p =
-        branch-all (λ e. P e × (clash B e ≡ false)) (expand B k) (λ m q. expand-stays k m (omega arith) q) (taken (B .entry k) k l) (taken-stays k l (omega arith) p)
-
-    -- an expansion has what the seed has and puts do not lose, and does not clash
-    pub expansions-stay : (seed : Label) → P seed → All (λ e. P e × (clash B e ≡ false)) (expansions B seed)
-    unfolding expansions
-    expansions-stay seed p = expand-stays (B .width) seed (omega arith) p
-
-    module _ (H : RoleBox) where
-      tell-on : (r : ℕ) (s : Bool) (i t : ℕ) (acc : Label) → i < B .width → P acc → P (tellOn H B r s i t acc)
-      unfolding tellPropagated
-      tell-on r s i t acc b p = cond-both (H .transitive t) (put s i acc) (fold (B .width) (tellPropagated H B r s i) acc) P
-          (λ _. stays s i acc b p)
-          (λ _. fold-keeps P (B .width) (tellPropagated H B r s i)
-          (λ j m h q. cond-both (B .propagates i j && H .below r (roleOf (B .entry j))) (put s j m) m P (λ _. stays s j m h q) (λ _. q)) acc p)
-
-      tell-entry : (r : ℕ) (s : Bool) (i : ℕ) (e : Entry) (acc : Label) → LowerEntry i e → i < B .width → P acc → P (tellEntry H B r s i e acc)
-      tell-entry r s i (Plain Nothing) acc low b p = p
-      tell-entry r s i (Plain Everything) acc low b p = p
-      tell-entry r s i (Plain (Name n)) acc low b p = p
-      tell-entry r s i (Plain (Not a)) acc low b p = p
-      tell-entry r s i (Plain (And c d)) acc low b p = p
-      tell-entry r s i (Plain (Or c d)) acc low b p = p
-      tell-entry r s i (Plain (Restriction q t a)) acc low b p =
-          cond-both (not (obliges q s) && H .below r t) (tellOn H B r s i t (put (signOf q s) a acc)) acc P
-          (λ _. tell-on r s i t (put (signOf q s) a acc) b (stays (signOf q s) a acc (omega arith) p))
-          (λ _. p)
-      tell-entry r s i (Inclusion c d) acc low b p = p
-      tell-entry r s i (Inclusions lo n) acc low b p = p
-
-      tell-stays : (l : Label) (r : ℕ) (s : Bool) (i : ℕ) (acc : Label) → i < B .width → P acc → P (tell H B l r s i acc)
-      tell-stays l r s i acc b p = cond-both (inLabel l s i) (tellEntry H B r s i (B .entry i) acc) acc P (λ _. tell-entry r s i (B .entry i) acc (lower i) b p) (λ _. p)
-
-      -- a successor's seed has what its part alone has and puts do not lose
-      pub seed-stays : (l : Label) (r : ℕ) (s : Bool) (a : ℕ) → P (put s a empty) → P (seedOf H B l r s a)
-      unfolding seedOf
-      seed-stays l r s a p =
-          fold-keeps P (B .width) (λ i acc. tell H B l r true i (tell H B l r false i acc))
-          (λ i m b q. tell-stays l r true i (tell H B l r false i m) b (tell-stays l r false i m b q)) (put s a empty) p
-
--- a label for a node with the seed
-pub record Made (B : Table) (seed e : Label) : Type 0 where
-  pub narrow : Narrow (B .width) e
-  pub holds : Holds e seed
-  pub calm : clash B e ≡ false
-
-module _ (B : Table) (lower : (i : ℕ) → LowerEntry i (B .entry i)) where
-  pub expansions-made : (seed : Label) → Narrow (B .width) seed → All (Made B seed) (expansions B seed)
-  expansions-made seed p =
-      let es = expansions-stay B lower (λ m. Narrow (B .width) m × Holds m seed)
-      (λ s i m b q. (narrow-stays (B .width) s i m b (q .0), holds-stays (B .width) seed s i m b (q .1))) seed (p, λ s i h. h) in
-      all-weaker (λ e. (Narrow (B .width) e × Holds e seed) × (clash B e ≡ false)) (Made B seed)
-      (λ e q. record { narrow = q .0 .0; holds = q .0 .1; calm = q .1 }) (expansions B seed) es
-
-  pub seed-narrow : (H : RoleBox) (l : Label) (r : ℕ) (s : Bool) (a : ℕ) → a < B .width → Narrow (B .width) (seedOf H B l r s a)
-  seed-narrow H l r s a b =
-      seed-stays B lower (Narrow (B .width)) (narrow-stays (B .width)) H l r s a (narrow-stays (B .width) s a empty b (narrow-empty (B .width)))
-
-  pub seed-holds : (H : RoleBox) (l : Label) (r : ℕ) (s : Bool) (a : ℕ) → inLabel (seedOf H B l r s a) s a ≡ true
-  seed-holds H l r s a = seed-stays B lower (λ m. inLabel m s a ≡ true) (λ t j m _ h. put-keeps t j m s a h) H l r s a (put-in s a empty)
+-- a successor's seed is narrow
+seed-narrow : (B : Table) → ((i : ℕ) → LowerEntry i (B .entry i)) → (H : RoleBox) (l : Label) (r : ℕ) (s : Bool) (a : ℕ) → a < B .width → Narrow (B .width) (seedOf H B l r s a)
+seed-narrow B lower H l r s a b = seed-stays H B l r (Narrow (B .width)) (record {
+  part = λ u i q t c k m. narrow-put (B .width) (signOf q u) c m (omega (arith, k .low, part-lower i q t c (k .is)));
+  itself = λ u i q t c k e m. narrow-put (B .width) u i m (k .low);
+  propagated = λ u i q t c k j w e d m. narrow-put (B .width) u j m w;
+}) s a (narrow-put (B .width) s a empty b (λ t i. in-empty t i))
+  where
+    part-lower : (i : ℕ) (q : Quantifier) (t c : ℕ) → B .entry i ≡ Plain (Restriction q t c) → c < i
+    part-lower i q t c e = subst (LowerEntry i) e (lower i)
 
 -- a label as a number in base 3: its first k entries, each absent, with + or with -
 abbrev digit : Bool → Bool → ℕ
@@ -214,6 +70,7 @@ code : ℕ → Label → ℕ
 code zero l = 0
 code (suc k) l = code k l * 3 + digit (inLabel l true k) (inLabel l false k)
 
+-- a digit is below 3, and so a code below 3 ^ k
 digit-below : (p m : Bool) → digit p m < 3
 digit-below true m = omega arith
 digit-below false true = omega arith
@@ -224,6 +81,7 @@ unfolding code
 code-below zero l = omega arith
 code-below (suc k) l = let e = pow-suc 3 k in omega (arith, code-below k l, digit-below (inLabel l true k) (inLabel l false k))
 
+-- a label that holds something has a code above 0
 digit-positive : (s p m : Bool) → cond s p m ≡ true → 0 < digit p m
 digit-positive s true m e = omega arith
 digit-positive s false true e = omega arith
@@ -242,6 +100,7 @@ code-positive (suc k) l s i b e = ⊎-elim
     positive true e = digit-positive true (inLabel l true k) (inLabel l false k) e
     positive false e = digit-positive false (inLabel l true k) (inLabel l false k) e
 
+-- labels with the same code have the same digits
 same-digits : (k : ℕ) (l m : Label) → code k l ≡ code k m → (i : ℕ) → i < k → digit (inLabel l true i) (inLabel l false i) ≡ digit (inLabel m true i) (inLabel m false i)
 unfolding code
 same-digits zero l m e i b = absurd (omega arith)
@@ -253,23 +112,19 @@ same-digits (suc k) l m e i b =
     (λ other. same-digits k l m (omega arith) i (omega arith))
     (cases-eq i k)
 
+-- and the same digit is the same sign, where a label has not both
 plus-digit : (p m q n : Bool) → digit p m ≡ digit q n → p ≡ true → q ≡ true
 plus-digit p m true n e h = refl
 plus-digit true m false true e h = absurd (omega arith)
 plus-digit true m false false e h = absurd (omega arith)
 plus-digit false m false n e h = absurd (both-ways false refl h)
 
-minus-digit : (p m q n : Bool) → digit p m ≡ digit q n → (p && m) ≡ false → m ≡ true → n ≡ true
+minus-digit : (p m q n : Bool) → digit p m ≡ digit q n → (p ≡ true → m ≡ true → ⊥) → m ≡ true → n ≡ true
 minus-digit p m q true e calm h = refl
-minus-digit true true q false e calm h = absurd (both-ways true calm refl)
+minus-digit true true q false e calm h = absurd (calm refl refl)
 minus-digit false true true false e calm h = absurd (omega arith)
 minus-digit false true false false e calm h = absurd (omega arith)
 minus-digit p false q false e calm h = absurd (both-ways false refl h)
-
-calm-at : (B : Table) (l : Label) → clash B l ≡ false → (i : ℕ) → i < B .width → (inLabel l true i && inLabel l false i) ≡ false
-unfolding clash
-calm-at B l calm i b =
-    or-parts _ _ (or-parts _ _ (any-none (B .width) (λ i. clashAt (B .entry i) l i) calm i b) .0) .0
 
 -- of two labels with the same code, the one holds what the other, that does not clash, holds
 codes-hold : (B : Table) (l m : Label) → Narrow (B .width) l → clash B l ≡ false → code (B .width) l ≡ code (B .width) m → Holds m l
@@ -277,14 +132,14 @@ codes-hold B l m narrow calm e true i h =
     plus-digit (inLabel l true i) (inLabel l false i) (inLabel m true i) (inLabel m false i) (same-digits (B .width) l m e i (narrow true i h)) h
 codes-hold B l m narrow calm e false i h =
     let b = narrow false i h in
-    minus-digit (inLabel l true i) (inLabel l false i) (inLabel m true i) (inLabel m false i) (same-digits (B .width) l m e i b) (calm-at B l calm i b) h
+    minus-digit (inLabel l true i) (inLabel l false i) (inLabel m true i) (inLabel m false i) (same-digits (B .width) l m e i b) (one-sign B l calm i b) h
 
--- labels that stand: narrow, not empty, and all of different codes
+-- labels that stand: not empty, and all of different codes
 record Apart (B : Table) (st : List Label) : Type 0 where
-  narrow : All (Narrow (B .width)) st
   some : All (λ l. 0 < code (B .width) l) st
   different : (i j : ℕ) → i < j → j < length st → code (B .width) (getD st i empty) ≡ code (B .width) (getD st j empty) → ⊥
 
+-- are fewer than the codes
 few-apart : (B : Table) (st : List Label) → Apart B st → length st < 3 ^ B .width
 few-apart B st a =
     let p = code-below (B .width) empty in
@@ -302,27 +157,29 @@ record Fresh (B : Table) (st : List Label) (seed : Label) : Type 0 where
   holding : Holding seed
   new : anyContains st seed ≡ false
 
-push-apart : (B : Table) → B .width ≤ 64 → (st : List Label) (seed e : Label) → Apart B st → Fresh B st seed → Made B seed e → Apart B (st ++ e ∷ [])
-push-apart B few st seed e a f m = record {
-  narrow = all-push (Narrow (B .width)) st e (a .narrow) (m .narrow);
-  some = all-push (λ l. 0 < code (B .width) l) st e (a .some) (code-positive (B .width) e (f .holding .0) (f .holding .1) (m .narrow (f .holding .0) (f .holding .1) there) there);
+-- an expansion of such a seed is apart from those that stand, none of which contains the seed
+push-apart : (B : Table) (st : List Label) (seed e : Label) → Apart B st → Fresh B st seed → Expansion B seed e → Apart B (st ++ e ∷ [])
+push-apart B st seed e a f x = record {
+  some = all-push (λ l. 0 < code (B .width) l) st e (a .some) (code-positive (B .width) e (f .holding .0) (f .holding .1) (narrow (f .holding .0) (f .holding .1) there) there);
   different = λ i j l k same. ⊎-elim
-      (λ (last : j ≡ length st). new i (omega arith) (sym (before i (omega arith)) ∙ same ∙ ap (λ l. code (B .width) l) (getD-push st e empty j (sym last))))
+      (λ (last : j ≡ length st). new i (omega arith) (sym (before i (omega arith)) ∙ same ∙ ap (code (B .width)) (getD-push st e empty j (sym last))))
       (λ other. a .different i j l (omega (arith, length-push st e)) (sym (before i (omega (arith, length-push st e))) ∙ same ∙ before j (omega (arith, length-push st e))))
       (cases-eq j (length st));
 }
   where
+    narrow : Narrow (B .width) e
+    narrow = narrow-expansion B seed e (f .narrow) x
+
     there : inLabel e (f .holding .0) (f .holding .1) ≡ true
-    there = m .holds (f .holding .0) (f .holding .1) (f .holding .2)
+    there = x .grew .holds (f .holding .0) (f .holding .1) (f .holding .2)
 
     before : (i : ℕ) → i < length st → code (B .width) (getD (st ++ e ∷ []) i empty) ≡ code (B .width) (getD st i empty)
-    before i l = ap (λ l. code (B .width) l) (getD-append-left st (e ∷ []) empty i l)
+    before i l = ap (code (B .width)) (getD-append-left st (e ∷ []) empty i l)
 
     new : (i : ℕ) → i < length st → code (B .width) (getD st i empty) ≡ code (B .width) e → ⊥
     new i l same =
-        let h = codes-hold B e (getD st i empty) (m .narrow) (m .calm) (sym same) in
-        let c = contains-from (B .width) few (getD st i empty) seed (all-getD (Narrow (B .width)) st i empty l (a .narrow)) (f .narrow) (λ s k x. h s k (m .holds s k x)) in
-        both-ways (anyContains st seed) (f .new) (any-at st i seed l c)
+        let h = codes-hold B e (getD st i empty) narrow (x .full .calm) (sym same) in
+        both-ways (anyContains st seed) (f .new) (any-at st i seed l (contains-from (getD st i empty) seed (λ s k y. h s k (x .grew .holds s k y))))
 
 -- What a search in n nodes comes to, with k more of depth: it is full only where n is small, and what stands is apart.
 abbrev Fits : Table → ℕ → ℕ → Outcome → Type 0
@@ -330,55 +187,54 @@ Fits B n k failed = Unit {0}
 Fits B n k full = n < 3 ^ B .width
 Fits B n k (stands ls) = Apart B ls × (n ≤ length ls + k)
 
-or-else : (B : Table) (n k : ℕ) (o : Outcome) (next : Unit {0} → Outcome) → Fits B n k o → Fits B n k (next tt) → Fits B n k (orElse o next)
-unfolding orElse
-or-else B n k failed next f g = g
-or-else B n k full next f g = f
-or-else B n k (stands ls) next f g = f
-
-and-then : (B : Table) (n k : ℕ) (o : Outcome) (next : List Label → Outcome) → Fits B n k o
-    → ((ls : List Label) → Apart B ls → n ≤ length ls + k → Fits B n k (next ls)) → Fits B n k (andThen o next)
-unfolding andThen
-and-then B n k failed next f g = tt
-and-then B n k full next f g = f
-and-then B n k (stands ls) next f g = g ls (f .0) (f .1)
-
+-- with more depth it fits too
 deeper : (B : Table) (n k : ℕ) (o : Outcome) → Fits B n k o → Fits B n (suc k) o
 deeper B n k failed f = tt
 deeper B n k full f = f
 deeper B n k (stands ls) f = (f .0, omega (arith, f .1))
 
-module _ (H : RoleBox) (B : Table) (lower : (i : ℕ) → LowerEntry i (B .entry i)) (few : B .width ≤ 64) (n : ℕ) where
+module _ (H : RoleBox) (B : Table) (lower : (i : ℕ) → LowerEntry i (B .entry i)) (n : ℕ) where
+  -- the search for a further node fits
   abbrev Roomy : ℕ → Searcher → Type 0
   Roomy k sub = (st : List Label) (seed : Label) → Apart B st → n ≤ length st + k → Fresh B st seed → Fits B n k (sub st seed)
 
-  pursue-fits : (k : ℕ) (sub : Searcher) → Roomy k sub → (l : Label) (o : Obligation) → Parted (B .width) o → (st : List Label) → Apart B st → n ≤ length st + k
-      → Fits B n k (pursue H B sub l o st)
+  -- the seed of an obligation that no standing label contains is one for a new node
+  obligation-fresh : (l : Label) → Narrow (B .width) l → (i r : ℕ) (s : Bool) (a : ℕ) → obligationAt B l i ≡ Wants r s a
+      → (st : List Label) → anyContains st (seedOf H B l r s a) ≡ false → Fresh B st (seedOf H B l r s a)
+  obligation-fresh l p i r s a e st new =
+      let k = obliging-at B l i r s a e in
+      let low : a < i = subst (LowerEntry i) (k .is) (lower i) in
+      record { narrow = seed-narrow B lower H l r s a (omega (arith, p (k .sign) i (k .held))); holding = (s, a, seed-part H B l r s a); new = new }
+
+  -- an obligation, several, the expansions, and the search at each depth fit
+  pursue-fits : (k : ℕ) (sub : Searcher) → Roomy k sub → (l : Label) → Narrow (B .width) l → (i : ℕ) (o : Obligation) → obligationAt B l i ≡ o
+      → (st : List Label) → Apart B st → n ≤ length st + k → Fits B n k (pursue H B sub l o st)
   unfolding pursue reuse
-  pursue-fits k sub good l Idle part st a b = (a, b)
-  pursue-fits k sub good l (Wants r s x) part st a b = go (anyContains st (seedOf H B l r s x)) refl
+  pursue-fits k sub good l p i Idle w st a b = (a, b)
+  pursue-fits k sub good l p i (Wants r s x) w st a b = go (anyContains st (seedOf H B l r s x)) refl
     where
       go : (c : Bool) → anyContains st (seedOf H B l r s x) ≡ c → Fits B n k (reuse c sub st (seedOf H B l r s x))
       go true e = (a, b)
-      go false e = good st (seedOf H B l r s x) a b
-          (record { narrow = seed-narrow B lower H l r s x part; holding = (s, x, seed-holds B lower H l r s x); new = e })
+      go false e = good st (seedOf H B l r s x) a b (obligation-fresh l p i r s x w st e)
 
   meet-fits : (k : ℕ) (sub : Searcher) → Roomy k sub → (l : Label) → Narrow (B .width) l → (d i : ℕ) (st : List Label) → Apart B st → n ≤ length st + k
       → Fits B n k (meetFrom H B sub l d i st)
   unfolding meetFrom
   meet-fits k sub good l p zero i st a b = (a, b)
-  meet-fits k sub good l p (suc d) i st a b = and-then B n k (pursue H B sub l (obligationAt B l i) st) (meetFrom H B sub l d (suc i))
-      (pursue-fits k sub good l (obligationAt B l i) (part-below B lower l p i) st a b)
-      (λ ls. meet-fits k sub good l p d (suc i) ls)
+  meet-fits k sub good l p (suc d) i st a b =
+      let f = pursue-fits k sub good l p i (obligationAt B l i) refl st a b in
+      then-cases (Fits B n k) (pursue H B sub l (obligationAt B l i) st) (meetFrom H B sub l d (suc i)) (λ e. tt) (λ e. subst (Fits B n k) e f)
+      (λ ls e. let g : Fits B n k (stands ls) = subst (Fits B n k) e f in meet-fits k sub good l p d (suc i) ls (g .0) (g .1))
 
   try-fits : (k : ℕ) (sub : Searcher) → Roomy k sub → (st : List Label) (seed : Label) → Apart B st → n ≤ length st + suc k → Fresh B st seed
-      → (es : List Label) → All (Made B seed) es → Fits B n k (tryEach H B sub st es)
+      → (es : List Label) → ((e : Label) → In e es → Expansion B seed e) → Fits B n k (tryEach H B sub st es)
   unfolding tryEach
-  try-fits k sub good st seed a b f [] made = tt
-  try-fits k sub good st seed a b f (e ∷ es) made =
-      or-else B n k (meetFrom H B sub e (B .width) 0 (st ++ e ∷ [])) (λ u. tryEach H B sub st es)
-      (meet-fits k sub good e (made .0 .narrow) (B .width) 0 (st ++ e ∷ []) (push-apart B few st seed e a f (made .0)) (omega (arith, length-push st e)))
-      (try-fits k sub good st seed a b f es (made .1))
+  try-fits k sub good st seed a b f [] right = tt
+  try-fits k sub good st seed a b f (e ∷ es) right =
+      let x = right e (inl refl) in
+      let m = meet-fits k sub good e (narrow-expansion B seed e (f .narrow) x) (B .width) 0 (st ++ e ∷ []) (push-apart B st seed e a f x) (omega (arith, length-push st e)) in
+      else-cases (Fits B n k) (meetFrom H B sub e (B .width) 0 (st ++ e ∷ [])) (λ u. tryEach H B sub st es)
+      (λ o. try-fits k sub good st seed a b f es (λ c h. right c (inr h))) (λ o. subst (Fits B n k) o m) (λ ls o. subst (Fits B n k) o m)
 
   explore-fits : (k : ℕ) → Roomy k (explore H B n k)
   unfolding enter explore
@@ -388,33 +244,19 @@ module _ (H : RoleBox) (B : Table) (lower : (i : ℕ) → LowerEntry i (B .entry
       go : Roomy k (explore H B n k) → (c : Bool) → leb n (length st) ≡ c → Fits B n (suc k) (enter H B c (explore H B n k) st seed)
       go good true e = omega (arith, few-apart B st a, leb-true n (length st) e)
       go good false e = deeper B n k (tryEach H B (explore H B n k) st (expansions B seed))
-          (try-fits k (explore H B n k) good st seed a b f (expansions B seed) (expansions-made B lower seed (f .narrow)))
+          (try-fits k (explore H B n k) good st seed a b f (expansions B seed) (expansions-right B lower seed))
 
-  root-fits : (seed : Label) → Narrow (B .width) seed → Holding seed → Fits B n n (explore H B n n [] seed)
+  -- the search from a root, where nothing stands
+  root-fits : (seed : Label) → Narrow (B .width) seed → Holding seed → (o : Outcome) → explore H B n n [] seed ≡ o → Fits B n n o
   unfolding anyContains
-  root-fits seed p h = explore-fits n [] seed (record { narrow = tt; some = tt; different = λ i j l k. absurd (omega arith) }) (omega arith) (record { narrow = p; holding = h; new = refl })
+  root-fits seed p h o e = subst (Fits B n n) e
+      (explore-fits n [] seed (record { some = tt; different = λ i j l k. absurd (omega arith) }) (omega arith) (record { narrow = p; holding = h; new = refl }))
 
--- With 3 ^ width nodes the search is never without room.
-pub roomy : (H : RoleBox) (B : Table) → Tabled H B → B .width ≤ 64 → (n : ℕ) → 3 ^ B .width ≤ n
-    → (seed : Label) → Narrow (B .width) seed → Holding seed → explore H B n n [] seed ≡ full → ⊥
-roomy H B t few n room seed p h e =
-    let f : n < 3 ^ B .width = subst (Fits B n n) e (root-fits H B (t .lower) few n seed p h) in
-    omega arith
+  -- With 3 ^ width nodes the search is never without room.
+  pub roomy : 3 ^ B .width ≤ n → (seed : Label) → Narrow (B .width) seed → Holding seed → explore H B n n [] seed ≡ full → ⊥
+  roomy room seed p h e = let f : n < 3 ^ B .width = root-fits seed p h full e in omega arith
 
--- what a search leaves standing
-left-apart : (H : RoleBox) (B : Table) → Tabled H B → B .width ≤ 64 → (n : ℕ)
-    → (seed : Label) → Narrow (B .width) seed → Holding seed → (ls : List Label) → explore H B n n [] seed ≡ stands ls → Apart B ls
-left-apart H B t few n seed p h ls e =
-    let f : Apart B ls × (n ≤ length ls + n) = subst (Fits B n n) e (root-fits H B (t .lower) few n seed p h) in
-    f .0
-
--- The labels that a search leaves standing are different.
-pub distinct : (H : RoleBox) (B : Table) → Tabled H B → B .width ≤ 64 → (n : ℕ)
-    → (seed : Label) → Narrow (B .width) seed → Holding seed → (ls : List Label) → explore H B n n [] seed ≡ stands ls
-    → (i j : ℕ) → i < j → j < length ls → getD ls i empty ≡ getD ls j empty → ⊥
-distinct H B t few n seed p h ls e i j l k same = left-apart H B t few n seed p h ls e .different i j l k (ap (λ l. code (B .width) l) same)
-
--- And they are fewer than 3 ^ width.
-pub fewer : (H : RoleBox) (B : Table) → Tabled H B → B .width ≤ 64 → (n : ℕ)
-    → (seed : Label) → Narrow (B .width) seed → Holding seed → (ls : List Label) → explore H B n n [] seed ≡ stands ls → length ls < 3 ^ B .width
-fewer H B t few n seed p h ls e = few-apart B ls (left-apart H B t few n seed p h ls e)
+  -- The labels that a search leaves standing are different.
+  pub distinct : (seed : Label) → Narrow (B .width) seed → Holding seed → (ls : List Label) → explore H B n n [] seed ≡ stands ls
+      → (i j : ℕ) → i < j → j < length ls → getD ls i empty ≡ getD ls j empty → ⊥
+  distinct seed p h ls e i j l k same = root-fits seed p h (stands ls) e .0 .different i j l k (ap (code (B .width)) same)

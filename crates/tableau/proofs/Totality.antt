@@ -1,32 +1,29 @@
 -- A world that keeps a book, with the universal role joining every pair, follows the hierarchy with that role and satisfies
 -- *book* and *everywhere*; and the concept entries mean in it what they meant.
-use mathlib.Core.Path.{_≡_, refl, sym, ap, _∙_, subst}
-use mathlib.Core.Bool.{Bool, true, false, not, cond, _&&_, _||_}
-use mathlib.Core.Logic.{_⊎_, inl, inr, ⊎-elim}
-use Prim.Native.Nat.{ℕ, zero, suc, _+_, _-_, _<_, _≤_}
+use mathlib.Core.Path.{_≡_, refl, sym, ap, _∙_}
+use mathlib.Core.Bool.{Bool, true, not, cond, _&&_, _||_}
+use mathlib.Core.Logic.{⊎-elim}
+use Prim.Native.Nat.{ℕ, zero, suc, _+_, _<_}
 use native.Mathlib.Omega.{arith}
 use lib.Dec.{eqb}
-use Rattle.std.proofs.shelf.Tests.{cases-bool, cases-eq, or-right, or-left, cond-true, cond-false, eq-eqb, ne-eqb, not-from-false}
-use Rattle.meaning.specs.Bounded.{any, all}
-use Rattle.meaning.specs.Worlds.{Interpretation, denotes, deep, holds, Lower}
-use Rattle.meaning.specs.Books.{Book, Sound, Keeps}
-use Rattle.meaning.specs.Orders.{RoleBox, Lawful}
-use Rattle.meaning.specs.Universal.{universalSize, universal-cases, withUniversal}
+use Rattle.std.proofs.shelf.Tests.{or-right, cond-true, cond-false, eq-eqb, ne-eqb}
+use Rattle.meaning.specs.Worlds.{Interpretation, denotes, deep, holds}
+use Rattle.meaning.specs.Books.{Book, Keeps}
+use Rattle.meaning.specs.Orders.{RoleBox}
+use Rattle.meaning.specs.Universal.{universal-cases, withUniversal}
 use Rattle.meaning.specs.declared.Concept.{Concept}
 use Rattle.meaning.specs.declared.Concept.the-variants.{Nothing, Everything, Name, Not, And, Or, Restriction}
 use Rattle.meaning.specs.declared.Quantifier.{Quantifier}
 use Rattle.meaning.specs.declared.Quantifier.the-variants.{Exists, Forall, NoneOf}
-use Rattle.meaning.proofs.Tests.{all-from, all-at}
+use Rattle.meaning.proofs.Tests.{all-from}
 use Rattle.meaning.proofs.Meanings.{any-same, all-same, denotes-same}
 use Rattle.tableau.specs.declared.Label.{Label}
-use Rattle.tableau.specs.declared.Entry.the-variants.{Plain, Inclusion, Inclusions}
-use Rattle.tableau.specs.Labels.{empty, inLabel, put}
-use Rattle.tableau.specs.Entries.{means, Meaning, deepEntry, holdsEntry, Ordered, Follows}
-use Rattle.tableau.specs.Working.{plainOf, bookEntry, everywhereEntry, widthOf, entryOf, tableOf, rooted}
+use Rattle.tableau.specs.Entries.{means, Meaning, deepEntry, holdsEntry, Follows}
+use Rattle.tableau.specs.Working.{plainOf, bookEntry, everywhereEntry, entryOf, rooted}
 use Rattle.tableau.specs.Promises.{Opens, Satisfies, Seed}
-use Rattle.tableau.proofs.Labelling.{put-cases}
+use Rattle.tableau.proofs.Tests.{implies}
 use Rattle.tableau.proofs.Meanings.{entries-mean}
-use Rattle.tableau.proofs.Tables.{entry-concept, entry-rule, entry-book, entry-everywhere, transitive-cases}
+use Rattle.tableau.proofs.Tables.{entry-concept, rule-at, entry-book, entry-everywhere, transitive-cases, rooted-cases}
 use Rattle.tableau.proofs.Tabling.{lower}
 use Rattle.tableau.proofs.Failing.{Sat}
 
@@ -49,23 +46,30 @@ module _ (H : RoleBox) (K : Book) (P : Opens H K) where
   concept-same W i x l = deep-concept W (suc i) i x l
 
   module _ (W : Interpretation) where
-    T : Interpretation
-    T = withTotal (H .count) W
+    -- the world with the universal role
+    abbrev pub total : Interpretation
+    total = withTotal (H .count) W
 
-    other-role : (r x y : ℕ) → r < H .count → withTotal (H .count) W .joins r x y ≡ W .joins r x y
+    -- the meaning of the working entries in it
+    abbrev pub worked : ℕ → ℕ → Bool
+    worked = holdsEntry total (entryOf H K)
+
+    -- it joins by other roles what the world joins, and all by its own
+    other-role : (r x y : ℕ) → r < H .count → total .joins r x y ≡ W .joins r x y
     other-role r x y l = cond-false (eqb r (H .count)) true (W .joins r x y) (ne-eqb r (H .count) (omega arith))
 
-    total-role : (x y : ℕ) → withTotal (H .count) W .joins (H .count) x y ≡ true
+    total-role : (x y : ℕ) → total .joins (H .count) x y ≡ true
     total-role x y = cond-true (eqb (H .count) (H .count)) true (W .joins (H .count) x y) (eq-eqb (H .count) (H .count) refl)
 
+    -- a concept by other roles means in it what it meant
     restriction-total : (q : Quantifier) (r a : ℕ) → r < H .count → (g : ℕ → ℕ → Bool) (x : ℕ)
-        → denotes (withTotal (H .count) W) (Restriction q r a) g x ≡ denotes W (Restriction q r a) g x
+        → denotes total (Restriction q r a) g x ≡ denotes W (Restriction q r a) g x
     restriction-total Exists r a l g x = any-same (W .size) _ _ (λ y m. ap (λ b. b && g a y) (other-role r x y l))
     restriction-total Forall r a l g x = all-same (W .size) _ _ (λ y m. ap (λ b. not b || g a y) (other-role r x y l))
     restriction-total NoneOf r a l g x = all-same (W .size) _ _ (λ y m. ap (λ b. not b || not (g a y)) (other-role r x y l))
 
     denotes-total : (c : Concept) → ((q : Quantifier) (r a : ℕ) → c ≡ Restriction q r a → r < H .count) → (g : ℕ → ℕ → Bool) (x : ℕ)
-        → denotes (withTotal (H .count) W) c g x ≡ denotes W c g x
+        → denotes total c g x ≡ denotes W c g x
     denotes-total Nothing l g x = refl
     denotes-total Everything l g x = refl
     denotes-total (Name n) l g x = refl
@@ -74,87 +78,81 @@ module _ (H : RoleBox) (K : Book) (P : Opens H K) where
     denotes-total (Or a b) l g x = refl
     denotes-total (Restriction q r a) l g x = restriction-total q r a (l q r a refl) g x
 
+    -- the roles of a book are others
     role-in : (i : ℕ) → i < K .entries → (q : Quantifier) (r a : ℕ) → K .concept i ≡ Restriction q r a → r < H .count
     role-in i l q r a e = omega (arith, P .sound .roles-in i r a q l e, P .roles)
 
-    deep-total : (k i x : ℕ) → i < K .entries → deep (withTotal (H .count) W) (K .concept) k i x ≡ deep W (K .concept) k i x
+    -- so it means the same at every depth, and at its own
+    deep-total : (k i x : ℕ) → i < K .entries → deep total (K .concept) k i x ≡ deep W (K .concept) k i x
     unfolding deep
     deep-total zero i x l = refl
     deep-total (suc k) i x l =
-        denotes-total (K .concept i) (role-in i l) (deep (withTotal (H .count) W) (K .concept) k) x
-        ∙ denotes-same W i (K .concept i) (P .sound .lower i) (deep (withTotal (H .count) W) (K .concept) k) (deep W (K .concept) k)
+        denotes-total (K .concept i) (role-in i l) (deep total (K .concept) k) x
+        ∙ denotes-same W i (K .concept i) (P .sound .lower i) (deep total (K .concept) k) (deep W (K .concept) k)
         (λ a y m. deep-total k a y (omega arith)) x
 
-    total-same : (i x : ℕ) → i < K .entries → holds (withTotal (H .count) W) (K .concept) i x ≡ holds W (K .concept) i x
+    total-same : (i x : ℕ) → i < K .entries → holds total (K .concept) i x ≡ holds W (K .concept) i x
     unfolding holds
     total-same i x l = deep-total (suc i) i x l
 
-    -- the meaning of the working entries in the world with the universal role
-    abbrev pub worked : ℕ → ℕ → Bool
-    worked = holdsEntry (withTotal (H .count) W) (entryOf H K)
+    -- the entries mean what they say
+    pub worked-means : Meaning total (entryOf H K) worked
+    worked-means = entries-mean total (entryOf H K) (lower H K P)
 
-    pub worked-means : Meaning (withTotal (H .count) W) (entryOf H K) (holdsEntry (withTotal (H .count) W) (entryOf H K))
-    worked-means = entries-mean (withTotal (H .count) W) (entryOf H K) (lower H K P)
-
-    pub worked-concept : (i x : ℕ) → i < K .entries → holdsEntry (withTotal (H .count) W) (entryOf H K) i x ≡ holds W (K .concept) i x
-    worked-concept i x l = concept-same (withTotal (H .count) W) i x l ∙ total-same i x l
+    -- a concept entry means what it meant in the world
+    pub worked-concept : (i x : ℕ) → i < K .entries → worked i x ≡ holds W (K .concept) i x
+    worked-concept i x l = concept-same total i x l ∙ total-same i x l
 
     module _ (Kp : Keeps H K W) where
-      pub follows : Follows (withUniversal H) (withTotal (H .count) W)
+      -- its roles are as the hierarchy with the universal role says
+      pub follows : Follows (withUniversal H) total
       follows = record { wider = wider; passes = passes }
         where
-          wider : (r s x y : ℕ) → withUniversal H .below r s ≡ true → x < W .size → y < W .size → withTotal (H .count) W .joins r x y ≡ true → withTotal (H .count) W .joins s x y ≡ true
+          wider : (r s x y : ℕ) → withUniversal H .below r s ≡ true → x < W .size → y < W .size → total .joins r x y ≡ true → total .joins s x y ≡ true
           wider r s x y e l m j = ⊎-elim
-              (λ top. ap (λ t. withTotal (H .count) W .joins t x y) (top .1) ∙ total-role x y)
+              (λ top. ap (λ t. total .joins t x y) (top .1) ∙ total-role x y)
               (λ h.
               let w = P .ordered .law .within r s h in
               other-role s x y (w .1) ∙ Kp .inclusions r s h x y l m (sym (other-role r x y (w .0)) ∙ j))
               (universal-cases (H .count) (H .below) r s e)
 
-          passes : (r x y z : ℕ) → withUniversal H .transitive r ≡ true → x < W .size → y < W .size → z < W .size → withTotal (H .count) W .joins r x y ≡ true
-              → withTotal (H .count) W .joins r y z ≡ true → withTotal (H .count) W .joins r x z ≡ true
+          passes : (r x y z : ℕ) → withUniversal H .transitive r ≡ true → x < W .size → y < W .size → z < W .size → total .joins r x y ≡ true
+              → total .joins r y z ≡ true → total .joins r x z ≡ true
           passes r x y z e l m o j k = ⊎-elim
-              (λ (top : r ≡ H .count). ap (λ t. withTotal (H .count) W .joins t x z) top ∙ total-role x z)
+              (λ (top : r ≡ H .count). ap (λ t. total .joins t x z) top ∙ total-role x z)
               (λ h.
               let w = P .ordered .inside r h in
               other-role r x z w ∙ Kp .transitivity r h x y z l m o (sym (other-role r x y w) ∙ j) (sym (other-role r y z w) ∙ k))
               (transitive-cases H (P .ordered) (P .few) r e)
 
-      or-implied : (a b : Bool) → (a ≡ true → b ≡ true) → (not a || b) ≡ true
-      or-implied true b f = f refl
-      or-implied false b f = refl
-
       -- every rule, book and everywhere hold of every individual
-      rule-holds : (k x : ℕ) → k < K .rules → x < W .size → holdsEntry (withTotal (H .count) W) (entryOf H K) (plainOf H K + k) x ≡ true
+      rule-holds : (k x : ℕ) → k < K .rules → x < W .size → worked (plainOf H K + k) x ≡ true
       rule-holds k x l m =
-          let i = plainOf H K + k in
-          let back : i - plainOf H K ≡ k = omega arith in
           let c = K .rule k .premise in
           let d = K .rule k .conclusion in
-          worked-means i x
-          ∙ ap (λ e. means (withTotal (H .count) W) e (holdsEntry (withTotal (H .count) W) (entryOf H K)) x)
-          (entry-rule H K i (omega arith) (omega arith) ∙ ap (λ t. Inclusion (K .rule t .premise) (K .rule t .conclusion)) back)
-          ∙ or-implied (holdsEntry (withTotal (H .count) W) (entryOf H K) c x) (holdsEntry (withTotal (H .count) W) (entryOf H K) d x)
+          worked-means (plainOf H K + k) x
+          ∙ ap (λ e. means total e worked x) (rule-at H K k l)
+          ∙ implies (worked c x) (worked d x)
           (λ h. worked-concept d x (P .sound .conclusions-in k l) ∙ Kp .rules k l x m (sym (worked-concept c x (P .sound .premises-in k l)) ∙ h))
 
-      book-holds : (x : ℕ) → x < W .size → holdsEntry (withTotal (H .count) W) (entryOf H K) (bookEntry H K) x ≡ true
+      book-holds : (x : ℕ) → x < W .size → worked (bookEntry H K) x ≡ true
       book-holds x m =
           worked-means (bookEntry H K) x
-          ∙ ap (λ e. means (withTotal (H .count) W) e (holdsEntry (withTotal (H .count) W) (entryOf H K)) x) (entry-book H K)
+          ∙ ap (λ e. means total e worked x) (entry-book H K)
           ∙ all-from (K .rules) _ (λ k l. rule-holds k x l m)
 
-      everywhere-holds : (x : ℕ) → x < W .size → holdsEntry (withTotal (H .count) W) (entryOf H K) (everywhereEntry H K) x ≡ true
+      everywhere-holds : (x : ℕ) → x < W .size → worked (everywhereEntry H K) x ≡ true
       everywhere-holds x m =
           worked-means (everywhereEntry H K) x
-          ∙ ap (λ e. means (withTotal (H .count) W) e (holdsEntry (withTotal (H .count) W) (entryOf H K)) x) (entry-everywhere H K)
-          ∙ all-from (W .size) _ (λ y l. or-right (not (withTotal (H .count) W .joins (H .count) x y)) _ (book-holds y l))
+          ∙ ap (λ e. means total e worked x) (entry-everywhere H K)
+          ∙ all-from (W .size) _ (λ y l. or-right (not (total .joins (H .count) x y)) _ (book-holds y l))
 
       -- an individual that satisfies a seed satisfies the root seed
-      pub root-satisfied : (s : Label) → Seed K s → (x : ℕ) → x < W .size → Satisfies K W x s → Sat (holdsEntry (withTotal (H .count) W) (entryOf H K)) x (rooted H K s)
+      pub root-satisfied : (s : Label) → Seed K s → (x : ℕ) → x < W .size → Satisfies K W x s → Sat worked x (rooted H K s)
       root-satisfied s seed x m sat t i e = ⊎-elim
-          (λ both. ap (λ j. holdsEntry (withTotal (H .count) W) (entryOf H K) j x) (both .1) ∙ everywhere-holds x m ∙ sym (both .0))
-          (λ h. ⊎-elim
-          (λ both. ap (λ j. holdsEntry (withTotal (H .count) W) (entryOf H K) j x) (both .1) ∙ book-holds x m ∙ sym (both .0))
+          (λ ruled. ⊎-elim
+          (λ here. ap (λ j. worked j x) here ∙ book-holds x m)
+          (λ here. ap (λ j. worked j x) here ∙ everywhere-holds x m)
+          (ruled .1) ∙ sym (ruled .0))
           (λ g. worked-concept i x (seed t i g) ∙ sat t i g)
-          (put-cases true (bookEntry H K) s t i h))
-          (put-cases true (everywhereEntry H K) (put true (bookEntry H K) s) t i e)
+          (rooted-cases H K s t i e)

@@ -7,7 +7,7 @@ use Prim.Native.Nat.{ℕ, zero, suc, _+_, _<_, _≤_}
 use native.Mathlib.Omega.{arith}
 use lib.Dec.{eqb}
 use lib.ListN.{length, getD}
-use Rattle.std.proofs.shelf.Tests.{cases-bool, cases-lt, and-parts, and-from, and-left, and-right, or-cases, or-left, or-right, or-from, both-ways, not-from-false, cond-true, cond-false, eqb-true, eq-eqb}
+use Rattle.std.proofs.shelf.Tests.{cases-bool, cases-lt, and-parts, and-from, and-left, and-right, or-cases, or-left, or-right, or-from, both-ways, not-from-false, eqb-true, eq-eqb}
 use Rattle.meaning.specs.Chains.{reach}
 use Rattle.meaning.specs.Orders.{RoleBox}
 use Rattle.meaning.specs.Worlds.{denotes}
@@ -24,13 +24,16 @@ use Rattle.tableau.specs.declared.Obligation.{Obligation}
 use Rattle.tableau.specs.declared.Obligation.the-variants.{Idle, Wants}
 use Rattle.tableau.specs.Labels.{empty, inLabel, contains, lowest}
 use Rattle.tableau.specs.Entries.{Table, means, LowerEntry, Meaning, Ordered, Follows, Concepts, Ruling, Tabled}
-use Rattle.tableau.specs.Expansions.{absurdEntry, clashAt, clash}
-use Rattle.tableau.specs.Seeds.{obliges, signOf, obligation, obligationAt, roleOf, seedOf}
+use Rattle.tableau.specs.Expansions.{absurdEntry, clash}
+use Rattle.tableau.specs.Seeds.{obliges, signOf, obligationAt, roleOf, seedOf}
 use Rattle.tableau.specs.Found.{isName, leads, edge, joined, borne, found}
-use Rattle.tableau.proofs.Labelling.{There, lowest-there, contains-at}
+use Rattle.tableau.proofs.Tests.{never, not-sign}
+use Rattle.tableau.proofs.Labelling.{Holds, There, lowest-there, contains-at}
+use Rattle.tableau.proofs.Clashing.{one-sign, no-absurd}
+use Rattle.tableau.proofs.Obligations.{obligation-is}
 use Rattle.tableau.proofs.Restrictions.{oblige, restrict}
 use Rattle.tableau.proofs.Standing.{Saturates, Stands}
-use Rattle.tableau.proofs.Telling.{seed-part, seed-told, seed-travels, seed-propagates}
+use Rattle.tableau.proofs.Telling.{Restricting, seed-part, seed-told, seed-travels, seed-propagates}
 
 -- a chain of steps of R is one of steps of S, if each step of R is one of S
 reach-wider : (R S : ℕ → ℕ → Bool) → ((x y : ℕ) → R x y ≡ true → S x y ≡ true) → (n x y : ℕ) → reach n R x y ≡ true → reach n S x y ≡ true
@@ -44,6 +47,7 @@ reach-wider R S sub (suc n) x y e = ⊎-elim
     (or-cases (reach n R x y) (reach n R x n && reach n R n y) e)
 
 module _ (H : RoleBox) (O : Ordered H) (B : Table) (ls : List Label) where
+  -- an obligation that leads below r leads below s, if r is below s; and so does an edge, and what is joined
   leads-wider : (l : Label) (o : Obligation) (r s y : ℕ) → H .below r s ≡ true → leads H B ls l o r y ≡ true → leads H B ls l o s y ≡ true
   unfolding leads
   leads-wider l Idle r s y b e = e
@@ -95,6 +99,7 @@ module _ (H : RoleBox) (O : Ordered H) (B : Table) (ls : List Label) where
       (λ c. reach-wider (edge H B ls (c .0)) (edge H B ls r) (λ u v. edge-wider (c .0) r u v (c .2)) (length ls) x y (c .3))
       (joined-is r x y e)
 
+  -- the roles of the found world are as the hierarchy says
   pub follows : Follows H (found H B ls)
   follows = record {
     wider = λ r s x y b lx ly j. joined-wider r s x y b j;
@@ -108,7 +113,8 @@ abbrev pub Sane : ℕ → Bool → ℕ → Type 0
 Sane p true i = Unit {0}
 Sane p false i = i < p
 
-sane-low : (p : ℕ) (s : Bool) (i : ℕ) → i < p → Sane p s i
+-- and one below it with either sign
+pub sane-low : (p : ℕ) (s : Bool) (i : ℕ) → i < p → Sane p s i
 sane-low p true i l = tt
 sane-low p false i l = l
 
@@ -145,30 +151,6 @@ name-is n (Plain (Restriction q r a)) h = absurd (both-ways false refl h)
 name-is n (Inclusion c d) h = absurd (both-ways false refl h)
 name-is n (Inclusions lo k) h = absurd (both-ways false refl h)
 
--- a label without a clash has no entry with both signs, and none that no individual has
-calm-sign : (B : Table) (l : Label) → clash B l ≡ false → (i : ℕ) → i < B .width → inLabel l true i ≡ true → inLabel l false i ≡ true → ⊥
-unfolding clash
-calm-sign B l calm i w p m = both-ways (clash B l) calm (any-from (B .width) i (λ i. clashAt (B .entry i) l i) w
-    (or-left _ (inLabel l false i && absurdEntry (B .entry i) false)
-    (or-left (inLabel l true i && inLabel l false i) (inLabel l true i && absurdEntry (B .entry i) true) (and-from (inLabel l true i) (inLabel l false i) p m))))
-
-calm-entry : (B : Table) (l : Label) → clash B l ≡ false → (i : ℕ) → i < B .width → (s : Bool) → inLabel l s i ≡ true → absurdEntry (B .entry i) s ≡ true → ⊥
-unfolding clash
-calm-entry B l calm i w true h a = both-ways (clash B l) calm (any-from (B .width) i (λ i. clashAt (B .entry i) l i) w
-    (or-left _ (inLabel l false i && absurdEntry (B .entry i) false)
-    (or-right (inLabel l true i && inLabel l false i) (inLabel l true i && absurdEntry (B .entry i) true) (and-from (inLabel l true i) (absurdEntry (B .entry i) true) h a))))
-calm-entry B l calm i w false h a = both-ways (clash B l) calm (any-from (B .width) i (λ i. clashAt (B .entry i) l i) w
-    (or-right _ (inLabel l false i && absurdEntry (B .entry i) false) (and-from (inLabel l false i) (absurdEntry (B .entry i) false) h a)))
-
--- a restriction that obliges is the obligation at its entry
-obligation-at : (B : Table) (l : Label) → clash B l ≡ false → (i : ℕ) → i < B .width → (s : Bool) → inLabel l s i ≡ true
-    → (q : Quantifier) (r a : ℕ) → B .entry i ≡ Plain (Restriction q r a) → obliges q s ≡ true → obligationAt B l i ≡ Wants r (signOf q s) a
-obligation-at B l calm i w true h q r a e o = cond-true (inLabel l true i) _ _ h ∙ ap (λ z. obligation z true) e ∙ cond-true (obliges q true) _ _ o
-obligation-at B l calm i w false h q r a e o = ⊎-elim
-    (λ p. absurd (calm-sign B l calm i w p h))
-    (λ n. cond-false (inLabel l true i) _ _ n ∙ cond-true (inLabel l false i) _ _ h ∙ ap (λ z. obligation z false) e ∙ cond-true (obliges q false) _ _ o)
-    (cases-bool (inLabel l true i))
-
 -- an edge below t leads to a node whose label contains the seed of a successor by a role below t
 record Arc (H : RoleBox) (B : Table) (ls : List Label) (t x y : ℕ) : Type 0 where
   role : ℕ
@@ -176,13 +158,14 @@ record Arc (H : RoleBox) (B : Table) (ls : List Label) (t x y : ℕ) : Type 0 wh
   part : ℕ
   under : H .below role t ≡ true
   inside : y < length ls
-  gets : (s : Bool) (i : ℕ) → inLabel (seedOf H B (getD ls x empty) role sign part) s i ≡ true → inLabel (getD ls y empty) s i ≡ true
+  gets : Holds (getD ls y empty) (seedOf H B (getD ls x empty) role sign part)
 
 module _ (H : RoleBox) (O : Ordered H) (B : Table) (T : Tabled H B) (ls : List Label) (S : Stands H B ls) where
   -- does the node x hold the signed entry
   abbrev At : ℕ → Bool → ℕ → Type 0
   At x s i = inLabel (getD ls x empty) s i ≡ true
 
+  -- a node has no clash
   calm-at : (x : ℕ) → x < length ls → clash B (getD ls x empty) ≡ false
   calm-at x l = S .full x l .calm
 
@@ -191,6 +174,7 @@ module _ (H : RoleBox) (O : Ordered H) (B : Table) (T : Tabled H B) (ls : List L
       → There ls (seedOf H B (getD ls x empty) r s a)
   there x i r a s l w e = lowest-there ls (seedOf H B (getD ls x empty) r s a) (S .met x i r a s l w e)
 
+  -- and so does every edge
   arc : (t x y : ℕ) → x < length ls → edge H B ls t x y ≡ true → Arc H B ls t x y
   unfolding edge leads
   arc t x y l e =
@@ -223,6 +207,11 @@ module _ (H : RoleBox) (O : Ordered H) (B : Table) (T : Tabled H B) (ls : List L
       any-from (B .width) i (λ i. leads H B ls l (obligationAt B l i) r y) w
       (subst (λ o. leads H B ls l o r y ≡ true) (sym e) (and-from (H .below r r) (eqb y y) (O .law .reflexive r c) (eq-eqb y y refl)))
 
+  -- a restriction by v of a label says what the successors by r are, where r is below p and p below v
+  restricts : (n : Label) (r p : ℕ) (u : Bool) (k : ℕ) (q : Quantifier) (v a : ℕ) → k < B .width → B .entry k ≡ Plain (Restriction q v a) → obliges q u ≡ false
+      → H .below p v ≡ true → H .below r p ≡ true → inLabel n u k ≡ true → Restricting H B n r u k q v a
+  restricts n r p u k q v a w is o pv rp h = record { low = w; held = h; is = is; every = o; above = O .law .transitive r p v rp pv }
+
   -- if z holds restriction i or j, then w is a node that holds j and the part
   abbrev Passes : Bool → Quantifier → ℕ → ℕ → ℕ → ℕ → ℕ → Type 0
   Passes u q i j a z w = z < length ls → (At z u i) ⊎ (At z u j) → (w < length ls) × At w u j × At w (signOf q u) a
@@ -234,7 +223,7 @@ module _ (H : RoleBox) (O : Ordered H) (B : Table) (T : Tabled H B) (ls : List L
       → H .below p t ≡ true → H .below p v ≡ true → H .transitive v ≡ true
       → ((l : Label) (r : ℕ) (s : Bool) (b : ℕ) → H .below r p ≡ true → inLabel l u i ≡ true → inLabel (seedOf H B l r s b) u j ≡ true)
       → (x y : ℕ) → reach (length ls) (edge H B ls p) x y ≡ true → x < length ls → At x u i → At y (signOf q u) a
-  chain-tells u q i j t v a p wi wj o ei ej bt bv tr first x y e l h =
+  chain-tells u q i j t v a p wi wj o ei ej bt bv on first x y e l h =
       reach-ind (edge H B ls p) (Passes u q i j a) step join (length ls) x y e l (inl h) .2
     where
       join : (x y z : ℕ) → Passes u q i j a x y → Passes u q i j a y z → Passes u q i j a x z
@@ -248,12 +237,13 @@ module _ (H : RoleBox) (O : Ordered H) (B : Table) (T : Tabled H B) (ls : List L
           (λ hi. (
             c .inside,
             c .gets u j (first n (c .role) (c .sign) (c .part) (c .under) hi),
-            c .gets (signOf q u) a (seed-told H B n (c .role) (c .sign) (c .part) u i q t a wi hi ei o (O .law .transitive (c .role) p t (c .under) bt)),
+            c .gets (signOf q u) a (seed-told H B n (c .role) (c .sign) (c .part) u i q t a (restricts n (c .role) p u i q t a wi ei o bt (c .under) hi)),
           ))
-          (λ hj. (
+          (λ hj.
+          let d = restricts n (c .role) p u j q v a wj ej o bv (c .under) hj in (
             c .inside,
-            c .gets u j (seed-travels H B n (c .role) (c .sign) (c .part) u j q v a wj hj ej o (O .law .transitive (c .role) p v (c .under) bv) tr),
-            c .gets (signOf q u) a (seed-told H B n (c .role) (c .sign) (c .part) u j q v a wj hj ej o (O .law .transitive (c .role) p v (c .under) bv)),
+            c .gets u j (seed-travels H B n (c .role) (c .sign) (c .part) u j q v a d on),
+            c .gets (signOf q u) a (seed-told H B n (c .role) (c .sign) (c .part) u j q v a d),
           ))
           h
 
@@ -262,13 +252,13 @@ module _ (H : RoleBox) (O : Ordered H) (B : Table) (T : Tabled H B) (ls : List L
       → (x y : ℕ) → x < length ls → At x u i → joined H B ls t x y ≡ true → At y (signOf q u) a
   joined-tells u q i t a w o e x y l h j = ⊎-elim
       (λ d. let c = arc t x y l d in
-      c .gets (signOf q u) a (seed-told H B (getD ls x empty) (c .role) (c .sign) (c .part) u i q t a w h e o (c .under)))
+      c .gets (signOf q u) a (seed-told H B (getD ls x empty) (c .role) (c .sign) (c .part) u i q t a (record { low = w; held = h; is = e; every = o; above = c .under })))
       (λ c. ⊎-elim (λ on. itself (c .0) (c .2) (c .3) on) (λ off. other (c .0) (c .1) (c .2) (c .3) off) (cases-bool (H .transitive t)))
       (joined-is H O B ls t x y j)
     where
       itself : (p : ℕ) → H .below p t ≡ true → reach (length ls) (edge H B ls p) x y ≡ true → H .transitive t ≡ true → At y (signOf q u) a
       itself p b c on = chain-tells u q i i t t a p w w o e e b b on
-          (λ m r s k d g. seed-travels H B m r s k u i q t a w g e o (O .law .transitive r p t d b) on) x y c l h
+          (λ m r s k d g. seed-travels H B m r s k u i q t a (restricts m r p u i q t a w e o b d g) on) x y c l h
 
       other : (p : ℕ) → H .transitive p ≡ true → H .below p t ≡ true → reach (length ls) (edge H B ls p) x y ≡ true → H .transitive t ≡ false → At y (signOf q u) a
       other p tp b c off =
@@ -276,9 +266,10 @@ module _ (H : RoleBox) (O : Ordered H) (B : Table) (T : Tabled H B) (ls : List L
           let n = k .0 in
           let z : H .below p p ≡ true = O .law .reflexive p (O .inside p tp) in
           chain-tells u q i n t p a p w (k .1) o e (k .3) b z tp
-          (λ m r s f d g. seed-propagates H B m r s f u i q t a w g e o (O .law .transitive r p t d b) off n (k .1) (k .2)
+          (λ m r s f d g. seed-propagates H B m r s f u i q t a (restricts m r p u i q t a w e o b d g) off n (k .1) (k .2)
           (subst (λ v. H .below r (roleOf v) ≡ true) (sym (k .3)) d)) x y c l h
 
+  -- an entry that is asked for with a sign it may have
   placed : (i : ℕ) (s : Bool) → i < B .width → Sane (B .plain) s i → Placed (B .plain) i (B .entry i) s
   placed i s w n = ⊎-elim (λ l. inl (l, T .low i l)) (λ g. inr (plus s n g, T .high i w g)) (cases-lt i (B .plain))
     where
@@ -288,10 +279,11 @@ module _ (H : RoleBox) (O : Ordered H) (B : Table) (T : Tabled H B) (ls : List L
 
   module _ (h : ℕ → ℕ → Bool) (x i : ℕ) (l : x < length ls) (w : i < B .width)
       (below : (y j : ℕ) (t : Bool) → y < length ls → j < i → Sane (B .plain) t j → At y t j → h j y ≡ t) where
-    -- a part of an entry below `plain`
-    low-part : i < B .plain → (j : ℕ) (t : Bool) → j < i → At x t j → h j x ≡ t
-    low-part p j t q e = below x j t l q (sane-low (B .plain) t j (omega arith)) e
+    -- a part of a concept that is no restriction
+    low-part : (c : Concept) (s : Bool) → ((r a : ℕ) → c ≡ Restriction Forall r a → ⊥) → Placed (B .plain) i (Plain c) s → (j : ℕ) (t : Bool) → j < i → At x t j → h j x ≡ t
+    low-part c s other p j t q e = below x j t l q (sane-low (B .plain) t j (omega (arith, placed-low (B .plain) i c s other p))) e
 
+    -- a name, a restriction, and any entry mean what the label says
     name-true : (n : ℕ) (s : Bool) → B .entry i ≡ Plain (Name n) → At x s i → borne H B ls x n ≡ s
     unfolding borne
     name-true n true e g =
@@ -301,7 +293,7 @@ module _ (H : RoleBox) (O : Ordered H) (B : Table) (T : Tabled H B) (ls : List L
         (λ t.
         let p = and-parts (inLabel (getD ls x empty) true j) (isName n (B .entry j)) t in
         let same : j ≡ i = T .names j i n v w (name-is n (B .entry j) (p .1)) e in
-        absurd (calm-sign B (getD ls x empty) (calm-at x l) i w (subst (At x true) same (p .0)) g))
+        absurd (one-sign B (getD ls x empty) (calm-at x l) i w (subst (At x true) same (p .0)) g))
         (λ f. f)
         (cases-bool (inLabel (getD ls x empty) true j && isName n (B .entry j))))
 
@@ -316,7 +308,7 @@ module _ (H : RoleBox) (O : Ordered H) (B : Table) (T : Tabled H B) (ls : List L
             let m = getD ls x empty in
             let z = seedOf H B m r (signOf q s) a in
             let y = lowest ls z in
-            let k : obligationAt B m i ≡ Wants r (signOf q s) a = obligation-at B m (calm-at x l) i w s g q r a e o in
+            let k : obligationAt B m i ≡ Wants r (signOf q s) a = obligation-is B m (calm-at x l) i w s g q r a e o in
             let t = there x i r a (signOf q s) l w k in
             oblige (found H B ls) r a x h q s o y (t .inside)
             (edge-joins H O B ls r x y (edge-from x i r a (signOf q s) w (T .roles i r a q w e) k))
@@ -325,28 +317,24 @@ module _ (H : RoleBox) (O : Ordered H) (B : Table) (T : Tabled H B) (ls : List L
 
     entry-true : (e : Entry) (s : Bool) → B .entry i ≡ e → LowerEntry i e → Placed (B .plain) i e s → Saturates e s (getD ls x empty) → At x s i
         → means (found H B ls) e h x ≡ s
-    entry-true (Plain Nothing) true e low p c g = absurd (calm-entry B (getD ls x empty) (calm-at x l) i w true g (ap (λ z. absurdEntry z true) e))
+    entry-true (Plain Nothing) true e low p c g = absurd (no-absurd B (getD ls x empty) (calm-at x l) i w true g (ap (λ z. absurdEntry z true) e))
     entry-true (Plain Nothing) false e low p c g = refl
     entry-true (Plain Everything) true e low p c g = refl
-    entry-true (Plain Everything) false e low p c g = absurd (calm-entry B (getD ls x empty) (calm-at x l) i w false g (ap (λ z. absurdEntry z false) e))
+    entry-true (Plain Everything) false e low p c g = absurd (no-absurd B (getD ls x empty) (calm-at x l) i w false g (ap (λ z. absurdEntry z false) e))
     entry-true (Plain (Name n)) s e low p c g = name-true n s e g
-    entry-true (Plain (Not a)) s e low p c g = not-true s
-        (low-part (placed-low (B .plain) i (Not a) s (λ r b z. let k : _≡_ {A = ℕ} 0 1 = cc in omega arith) p) a (not s) low c)
-      where
-        not-true : (s : Bool) → h a x ≡ not s → not (h a x) ≡ s
-        not-true true z = ap not z
-        not-true false z = ap not z
+    entry-true (Plain (Not a)) s e low p c g =
+        sym (not-sign s (h a x) (sym (low-part (Not a) s (λ r b z. never cc) p a (not s) low c)))
     entry-true (Plain (And a b)) true e low p c g =
-        let f = low-part (placed-low (B .plain) i (And a b) true (λ r b z. let k : _≡_ {A = ℕ} 0 1 = cc in omega arith) p) in
+        let f = low-part (And a b) true (λ r b z. never cc) p in
         and-from (h a x) (h b x) (f a true (low .0) (c .0)) (f b true (low .1) (c .1))
     entry-true (Plain (And a b)) false e low p c g =
-        let f = low-part (placed-low (B .plain) i (And a b) false (λ r b z. let k : _≡_ {A = ℕ} 0 1 = cc in omega arith) p) in
+        let f = low-part (And a b) false (λ r b z. never cc) p in
         ⊎-elim (λ u. and-left (h a x) (h b x) (f a false (low .0) u)) (λ v. and-right (h a x) (h b x) (f b false (low .1) v)) c
     entry-true (Plain (Or a b)) true e low p c g =
-        let f = low-part (placed-low (B .plain) i (Or a b) true (λ r b z. let k : _≡_ {A = ℕ} 0 1 = cc in omega arith) p) in
+        let f = low-part (Or a b) true (λ r b z. never cc) p in
         ⊎-elim (λ u. or-left (h a x) (h b x) (f a true (low .0) u)) (λ v. or-right (h a x) (h b x) (f b true (low .1) v)) c
     entry-true (Plain (Or a b)) false e low p c g =
-        let f = low-part (placed-low (B .plain) i (Or a b) false (λ r b z. let k : _≡_ {A = ℕ} 0 1 = cc in omega arith) p) in
+        let f = low-part (Or a b) false (λ r b z. never cc) p in
         or-from (h a x) (h b x) (f a false (low .0) (c .0)) (f b false (low .1) (c .1))
     entry-true (Plain (Restriction q r a)) s e low p c g = restriction-true q r a s e low (sane-part (B .plain) i q r a s low p) g
     entry-true (Inclusion c d) true e low (inl p) k g = absurd (p .1)
