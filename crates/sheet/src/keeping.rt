@@ -67,7 +67,9 @@ fn keeps_rules<W: World>(world: &W, book: &Book) -> bool
     let n = book.rule_count();
     for k in 0..n {
         let rule = book.rule(k);
-        if !words::subset(sets[rule.premise as usize], sets[rule.conclusion as usize]) {
+        let premise = sets[rule.premise as usize];
+        let conclusion = sets[rule.conclusion as usize];
+        if !words::subset(premise, conclusion) {
             return false;
         }
     }
