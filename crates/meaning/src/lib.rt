@@ -3,7 +3,7 @@
 // a world or a hierarchy. A trait's ghost members are its meaning, and code above is proved against them alone.
 ghost use mathlib.Core.Path.{_≡_};
 ghost use mathlib.Core.Bool.{Bool, _&&_};
-ghost use Prim.Native.Nat.{ℕ, _<_};
+ghost use Prim.Native.Nat.{ℕ};
 ghost use lib.Dec.{ltb};
 ghost use denote.Ref.{now};
 ghost use Rattle.meaning.specs.Worlds.{Interpretation, Sized, Entries-mean};

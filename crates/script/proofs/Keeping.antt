@@ -9,14 +9,13 @@ use Rattle.std.specs.declared.option.Option.{Option}
 use Rattle.std.specs.declared.option.Option.the-variants.{Some, None}
 use Rattle.std.specs.declared.result.Result.{Result}
 use Rattle.std.specs.declared.result.Result.the-variants.{Ok, Err}
-use Rattle.denial.specs.Denials.{Answer, granted, denied, says}
+use Rattle.denial.specs.Denials.{Answer, granted, denied, reported}
 use Rattle.denial.specs.declared.Denial.{Denial}
 use Rattle.denial.specs.declared.Layer.the-variants.{Register}
 use Rattle.meaning.specs.Worlds.{Interpretation}
 use Rattle.meaning.specs.Orders.{RoleBox, roleBox}
 use Rattle.meaning.specs.Books.{Book, Keeps}
-use Rattle.book.specs.Sections.{Sections}
-use Rattle.book.specs.Sections as book
+use Rattle.book.specs.Sections.{Sections, says}
 use Rattle.roles.specs.Told.{marked}
 use Rattle.roles.specs.Closure.{closure}
 use Rattle.sheet.specs.Sheets.{needed, sheetOf, unlessStray, refused, firstStray, written, sheetWorld}
@@ -42,7 +41,7 @@ turned H G e = record { count = sym (e .count); below = λ r s. sym (e .below r 
 
 pub answer-to : (H G : RoleBox) (B : Book) (W : Interpretation) (r : Result Bool Denial) → Same H G → KeepsAnswer H B W r → KeepsAnswer G B W r
 answer-to H G B W (Ok b) e a = (sym (e .count) ∙ a .0, ((λ t. keeps-to H G B W e (a .1 .0 t)), (λ k. a .1 .1 (keeps-to G H B W (turned H G e) k))))
-answer-to H G B W (Err d) e a = ((λ c. a .0 (e .count ∙ c)), a .1 ∙ ap (λ n. says 12 n Register) (e .count))
+answer-to H G B W (Err d) e a = ((λ c. a .0 (e .count ∙ c)), a .1 ∙ ap (λ n. reported 12 n Register) (e .count))
 
 twice : (x y : Bool) → (x && (x && y)) ≡ (x && y)
 twice true y = refl
@@ -82,11 +81,11 @@ pub kept-under : (H : RoleBox) (s : Sections) (words ws : List ℕ) (roles : ℕ
     → roles ≡ length (s .roles)
     → sheetWorld roles ws ≡ written roles (getD words 0 0) words
     → Same H (rolesOf s)
-    → KeepsAnswer H (book.says s) (sheetWorld roles ws) r
+    → KeepsAnswer H (says s) (sheetWorld roles ws) r
     → Kept s words r
 kept-under H s words ws roles r made n world same a =
     let e = made-of (length (s .roles)) words ws made in
     let W : sheetWorld roles ws ≡ written (length (s .roles)) (getD ws 0 0) ws =
         world ∙ ap (λ k. written k (getD words 0 0) words) n ∙ ap (λ vs. written (length (s .roles)) (getD vs 0 0) vs) (sym e) in
-    let b : KeepsAnswer H (book.says s) (written (length (s .roles)) (getD ws 0 0) ws) r = subst (λ V. KeepsAnswer H (book.says s) V r) W a in
-    subst (λ x. KeptAfter x s r) made (answer-to H (rolesOf s) (book.says s) (written (length (s .roles)) (getD ws 0 0) ws) r same b)
+    let b : KeepsAnswer H (says s) (written (length (s .roles)) (getD ws 0 0) ws) r = subst (λ V. KeepsAnswer H (says s) V r) W a in
+    subst (λ x. KeptAfter x s r) made (answer-to H (rolesOf s) (says s) (written (length (s .roles)) (getD ws 0 0) ws) r same b)

@@ -6,14 +6,13 @@ use Prim.Native.Nat.{ℕ}
 use lib.Dec.{ltb}
 use lib.ListN.{length, getD}
 use Rattle.std.specs.declared.result.Result.{Result}
-use Rattle.denial.specs.Denials.{Answer, granted, denied, answer, andThen, says, denialReport}
+use Rattle.denial.specs.Denials.{Answer, granted, denied, answer, andThen, reported, denialReport}
 use Rattle.denial.specs.declared.Denial.{Denial}
 use Rattle.denial.specs.declared.Layer.the-variants.{Register}
 use Rattle.meaning.specs.Worlds.{Interpretation}
 use Rattle.meaning.specs.Orders.{RoleBox, roleBox}
 use Rattle.meaning.specs.Universal.{universalSize, universalUnder, universalPassing}
-use Rattle.book.specs.Sections.{Sections}
-use Rattle.book.specs.Sections as book
+use Rattle.book.specs.Sections.{Sections, says}
 use Rattle.roles.specs.Told.{marked}
 use Rattle.roles.specs.Closure.{closure}
 use Rattle.sheet.specs.Sheets.{sheetOf, written}
@@ -24,7 +23,7 @@ use Rattle.script.specs.declared.call.Source.the-variants.{Closed, Told, Close
 
 -- an answer over n roles and one more, refused where there is no number for that one
 abbrev pub overAll : ℕ → Bool → Answer Bool
-overAll n b = cond (ltb n 64) (granted b) (denied (says 12 n Register))
+overAll n b = cond (ltb n 64) (granted b) (denied (reported 12 n Register))
 
 -- is r below t: closure rows and told pairs answer alike
 abbrev pub belowUniversal : Sections → ℕ → ℕ → Answer Bool
@@ -56,7 +55,7 @@ individualsOf s words = onSheet s words (λ W. granted (W .size))
 
 -- which of them are in entry i
 abbrev pub judgedOf : Sections → List ℕ → ℕ → Answer ℕ
-judgedOf s words i = onSheet s words (λ W. judged W (book.says s) i)
+judgedOf s words i = onSheet s words (λ W. judged W (says s) i)
 
 -- the hierarchy of the book
 abbrev pub rolesOf : Sections → RoleBox
@@ -64,7 +63,7 @@ rolesOf s = roleBox (length (s .roles)) (closure (length (s .roles)) (s .pairs))
 
 -- whether the world on the sheet keeps the book under its hierarchy, or the refusal of the sheet
 abbrev pub KeptAfter : Answer (List ℕ) → Sections → Result Bool Denial → Type 0
-KeptAfter (granted ws) s r = KeepsAnswer (rolesOf s) (book.says s) (written (length (s .roles)) (getD ws 0 0) ws) r
+KeptAfter (granted ws) s r = KeepsAnswer (rolesOf s) (says s) (written (length (s .roles)) (getD ws 0 0) ws) r
 KeptAfter (denied d) s r = answer (λ b. b) denialReport r ≡ denied d
 
 abbrev pub Kept : Sections → List ℕ → Result Bool Denial → Type 0

@@ -6,7 +6,7 @@ use Prim.Native.Nat.{ℕ, _<_}
 use Rattle.std.specs.Orderings.{Decides}
 use Rattle.std.specs.declared.result.Result.{Result}
 use Rattle.std.specs.declared.result.Result.the-variants.{Ok, Err}
-use Rattle.denial.specs.Denials.{denialReport, says}
+use Rattle.denial.specs.Denials.{denialReport, reported}
 use Rattle.denial.specs.declared.Denial.{Denial}
 use Rattle.denial.specs.declared.Layer.the-variants.{Register}
 use Rattle.meaning.specs.Worlds.{Interpretation}
@@ -20,4 +20,4 @@ RowWithin W r x s z = (y : ℕ) → y < W .size → W .joins r x y ≡ true → 
 -- refused where the hierarchy is for another number of roles than the book's; else whether the world keeps the book
 abbrev pub KeepsAnswer : RoleBox → Book → Interpretation → Result Bool Denial → Type 0
 KeepsAnswer H B W (Ok b) = (H .count ≡ B .roles) × Decides b (Keeps H B W)
-KeepsAnswer H B W (Err d) = (H .count ≢ B .roles) × (denialReport d ≡ says 12 (H .count) Register)
+KeepsAnswer H B W (Err d) = (H .count ≢ B .roles) × (denialReport d ≡ reported 12 (H .count) Register)

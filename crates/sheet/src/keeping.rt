@@ -1,7 +1,6 @@
 // Whether a world keeps a book under a hierarchy of the book's roles.
-ghost use mathlib.Core.Path.{_≡_};
 ghost use mathlib.Core.Bool.{_&&_};
-ghost use Prim.Native.Nat.{ℕ, _<_};
+ghost use Prim.Native.Nat.{_<_};
 ghost use lib.Dec.{ltb};
 ghost use Rattle.std.specs.Orderings.{Decides};
 ghost use Rattle.meaning.specs.Books.{Includes, Passes, KeepsInclusions, KeepsTransitivity, KeepsRules};
