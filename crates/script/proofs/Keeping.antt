@@ -86,6 +86,6 @@ pub kept-under : (H : RoleBox) (s : Sections) (words ws : List ℕ) (roles : ℕ
 kept-under H s words ws roles r made n world same a =
     let e = made-of (length (s .roles)) words ws made in
     let W : sheetWorld roles ws ≡ written (length (s .roles)) (getD ws 0 0) ws =
-        world ∙ ap (λ k. written k (getD words 0 0) words) n ∙ ap (λ vs. written (length (s .roles)) (getD vs 0 0) vs) (sym e) in
+    world ∙ ap (λ k. written k (getD words 0 0) words) n ∙ ap (λ vs. written (length (s .roles)) (getD vs 0 0) vs) (sym e) in
     let b : KeepsAnswer H (says s) (written (length (s .roles)) (getD ws 0 0) ws) r = subst (λ V. KeepsAnswer H (says s) V r) W a in
     subst (λ x. KeptAfter x s r) made (answer-to H (rolesOf s) (says s) (written (length (s .roles)) (getD ws 0 0) ws) r same b)
