@@ -7,40 +7,40 @@ use lib.ListN.{length}
 use Rattle.std.specs.declared.option.Option.the-variants.{Some, None}
 use Rattle.std.specs.Options.{isSome}
 use Rattle.std.proofs.shelf.Tests.{and-from}
-use Rattle.denial.specs.Denials.{Answer, granted, denied, says}
+use Rattle.denial.specs.Denials.{Answer, granted, denied, reported}
 use Rattle.denial.specs.declared.Layer.the-variants.{Records}
 use Rattle.book.specs.declared.trailer.Layout.{Layout}
 use Rattle.book.specs.Sections.{Sections}
-use Rattle.book.specs.Records.{firstBadRole, firstBadPair, firstBadConcept, firstBadRule, faultless}
+use Rattle.book.specs.Records.{firstBadRole, firstUnfit, firstBadConcept, faultless}
 use Rattle.book.specs.Layouts.{laying}
 use Rattle.book.specs.Views.{sections}
 use Rattle.book.specs.Reading.{cut, sectionsOf, checking, reading}
 
 module _ (l : Layout) (s : Sections) where
-  pub checking-role : (k : ℕ) → Some k ≡ firstBadRole (s .roles) → denied (says 4 (l .roles .place + k) Records) ≡ checking l s
+  pub checking-role : (k : ℕ) → Some k ≡ firstBadRole (s .roles) → denied (reported 4 (l .roles .place + k) Records) ≡ checking l s
   unfolding checking
   checking-role k e = rw (← e)
 
   module _ (a : None ≡ firstBadRole (s .roles)) where
-    pub checking-pair : (k : ℕ) → Some k ≡ firstBadPair (length (s .roles)) (s .pairs) → denied (says 5 (l .pairs .place + 2 * k) Records) ≡ checking l s
+    pub checking-pair : (k : ℕ) → Some k ≡ firstUnfit (length (s .roles)) (s .pairs) → denied (reported 5 (l .pairs .place + 2 * k) Records) ≡ checking l s
     unfolding checking
     checking-pair k e = rw (← a, ← e)
 
-    module _ (b : None ≡ firstBadPair (length (s .roles)) (s .pairs)) where
-      pub checking-concept : (k : ℕ) → Some k ≡ firstBadConcept (length (s .roles)) (s .concepts) → denied (says 6 (l .concepts .place + 4 * k) Records) ≡ checking l s
+    module _ (b : None ≡ firstUnfit (length (s .roles)) (s .pairs)) where
+      pub checking-concept : (k : ℕ) → Some k ≡ firstBadConcept (length (s .roles)) (s .concepts) → denied (reported 6 (l .concepts .place + 4 * k) Records) ≡ checking l s
       unfolding checking
       checking-concept k e = rw (← a, ← b, ← e)
 
       module _ (c : None ≡ firstBadConcept (length (s .roles)) (s .concepts)) where
-        pub checking-rule : (k : ℕ) → Some k ≡ firstBadRule (length (s .concepts) / 4) (s .rules) → denied (says 7 (l .rules .place + 2 * k) Records) ≡ checking l s
+        pub checking-rule : (k : ℕ) → Some k ≡ firstUnfit (length (s .concepts) / 4) (s .rules) → denied (reported 7 (l .rules .place + 2 * k) Records) ≡ checking l s
         unfolding checking
         checking-rule k e = rw (← a, ← b, ← c, ← e)
 
-        pub checking-good : None ≡ firstBadRule (length (s .concepts) / 4) (s .rules) → granted s ≡ checking l s
+        pub checking-good : None ≡ firstUnfit (length (s .concepts) / 4) (s .rules) → granted s ≡ checking l s
         unfolding checking
         checking-good d = rw (← a, ← b, ← c, ← d)
 
-        pub no-fault : None ≡ firstBadRule (length (s .concepts) / 4) (s .rules) → faultless (s .roles) (s .pairs) (s .concepts) (s .rules) ≡ true
+        pub no-fault : None ≡ firstUnfit (length (s .concepts) / 4) (s .rules) → faultless (s .roles) (s .pairs) (s .concepts) (s .rules) ≡ true
         unfolding faultless
         no-fault d = rw (← a, ← b, ← c, ← d)
 

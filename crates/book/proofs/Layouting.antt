@@ -11,7 +11,7 @@ use Rattle.std.specs.declared.option.Option.{Option}
 use Rattle.std.specs.declared.option.Option.the-variants.{Some, None}
 use Rattle.std.specs.Options.{isSome}
 use Rattle.std.proofs.shelf.Tests.{or-parts, and-parts, and-from, and-left, and-right, le-leb, lt-leb, ltb-false, cond-true, cond-false, cases-lt}
-use Rattle.denial.specs.Denials.{Answer, granted, denied, says}
+use Rattle.denial.specs.Denials.{Answer, granted, denied, reported}
 use Rattle.denial.specs.declared.Report.{Report}
 use Rattle.denial.specs.declared.Layer.the-variants.{Trailer}
 use Rattle.meaning.specs.Bounded.{first}
@@ -24,21 +24,21 @@ module _ (bytes : List ℕ) where
   fits : 16 ≤ length bytes → length bytes ≤ 8192 → (leb 16 (length bytes) && leb (length bytes) 8192) ≡ true
   fits p q = and-from (leb 16 (length bytes)) (leb (length bytes) 8192) (le-leb 16 (length bytes) p) (le-leb (length bytes) 8192 q)
 
-  pub laying-short : length bytes < 16 → laying bytes ≡ denied (says 1 (length bytes) Trailer)
+  pub laying-short : length bytes < 16 → laying bytes ≡ denied (reported 1 (length bytes) Trailer)
   unfolding laying
   laying-short p = cond-false _ _ _ (and-left (leb 16 (length bytes)) (leb (length bytes) 8192) (lt-leb 16 (length bytes) p))
 
-  pub laying-long : 8192 < length bytes → laying bytes ≡ denied (says 1 (length bytes) Trailer)
+  pub laying-long : 8192 < length bytes → laying bytes ≡ denied (reported 1 (length bytes) Trailer)
   unfolding laying
   laying-long p = cond-false _ _ _ (and-right (leb 16 (length bytes)) (leb (length bytes) 8192) (lt-leb (length bytes) 8192 p))
 
   pub laying-count : 16 ≤ length bytes → length bytes ≤ 8192 → (j : ℕ) → Some j ≡ first 4 (badCount bytes)
-      → laying bytes ≡ denied (says 2 (trailerStart bytes + 4 * j + 2) Trailer)
+      → laying bytes ≡ denied (reported 2 (trailerStart bytes + 4 * j + 2) Trailer)
   unfolding laying
   laying-count p q j e = rw (fits p q, ← e)
 
   pub laying-place : 16 ≤ length bytes → length bytes ≤ 8192 → None ≡ first 4 (badCount bytes) → (j : ℕ) → Some j ≡ first 4 (badPlace bytes)
-      → laying bytes ≡ denied (says 3 (trailerStart bytes + 4 * j) Trailer)
+      → laying bytes ≡ denied (reported 3 (trailerStart bytes + 4 * j) Trailer)
   unfolding laying
   laying-place p q n j e = rw (fits p q, ← n, ← e)
 

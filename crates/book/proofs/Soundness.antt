@@ -22,15 +22,15 @@ use Rattle.meaning.proofs.Tests.{any-from}
 use Rattle.book.specs.Sections.{Sections, says, decode, conceptAt}
 use Rattle.book.specs.declared.Book.{Book}
 use Rattle.book.specs.Views.{view}
-use Rattle.book.specs.Records.{badRole, badPair, badConcept, badRule, named, fitting, firstBadRole, firstBadPair, firstBadConcept, firstBadRule, faultless}
+use Rattle.book.specs.Records.{badRole, unfit, badConcept, named, fitting, firstBadRole, firstUnfit, firstBadConcept, faultless}
 use Rattle.meaning.proofs.Firsts.{Clear, clear-from}
 
 -- the records of each section are good
 pub record Good (roles pairs concepts rules : List ℕ) : Type 0 where
   pub roles-good : Clear (length roles) (badRole roles)
-  pub pairs-good : Clear (length pairs / 2) (badPair (length roles) pairs)
+  pub pairs-good : Clear (length pairs / 2) (unfit (length roles) pairs)
   pub concepts-good : Clear (length concepts / 4) (badConcept (length roles) concepts)
-  pub rules-good : Clear (length rules / 2) (badRule (length concepts / 4) rules)
+  pub rules-good : Clear (length rules / 2) (unfit (length concepts / 4) rules)
 
 pub good : (roles pairs concepts rules : List ℕ) → faultless roles pairs concepts rules ≡ true → Good roles pairs concepts rules
 unfolding faultless
@@ -41,9 +41,9 @@ good roles pairs concepts rules e =
     let c = and-parts _ _ (b .1) in
     record {
       roles-good = clear-from n (badRole roles) (not-true _ (a .0));
-      pairs-good = clear-from (length pairs / 2) (badPair n pairs) (not-true _ (b .0));
+      pairs-good = clear-from (length pairs / 2) (unfit n pairs) (not-true _ (b .0));
       concepts-good = clear-from (length concepts / 4) (badConcept n concepts) (not-true _ (c .0));
-      rules-good = clear-from (length rules / 2) (badRule (length concepts / 4) rules) (not-true _ (c .1));
+      rules-good = clear-from (length rules / 2) (unfit (length concepts / 4) rules) (not-true _ (c .1));
     }
 
 -- what holds of each of the nine kinds holds of every number below 9

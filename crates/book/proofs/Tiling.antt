@@ -17,7 +17,7 @@ use Rattle.book.specs.declared.parts.Stage.the-variants.{AtRoles, AtPairs, AtC
 use Rattle.book.specs.Sections.{Sections}
 use Rattle.book.specs.Layouts.{laying, layoutOf, trailerStart, Laid}
 use Rattle.book.specs.Reading.{cut, reading, checking, sectionsOf}
-use Rattle.book.specs.Pieces.{Kind, Piece, piece, noteAt, ofRoles, ofPairs, ofConcepts, ofRules, ofNote, ofTrailer, targetOf, fromTrailer, fromRules, fromConcepts, fromPairs, fromRoles, partsOf, EndToEnd, Tiles}
+use Rattle.book.specs.Pieces.{Kind, Piece, piece, noteAt, ofRoles, ofPairs, ofConcepts, ofRules, ofNote, ofTrailer, targetOf, piecesFromTrailer, piecesFromRules, piecesFromConcepts, piecesFromPairs, piecesFromRoles, partsOf, EndToEnd, Tiles}
 use Rattle.book.proofs.Layouting.{laid-from}
 
 module _ (bytes : List ℕ) where
@@ -43,7 +43,7 @@ module _ (bytes : List ℕ) where
       (λ more. let same : j ≡ at = omega arith in rw (le-ltb at j more) (subst (λ m. EndToEnd m ps (drop m bytes)) same e))
       (cases-lt at j)
 
-  tiled : (l : Layout) → Laid (length bytes) l → EndToEnd 0 (fromRoles bytes l 0) bytes
+  tiled : (l : Layout) → Laid (length bytes) l → EndToEnd 0 (piecesFromRoles bytes l 0) bytes
   tiled l g =
       note-more 0 (l .roles .place) _ (omega arith) (omega arith)
       (one-more ofRoles (l .roles .place) (l .roles .count) _ (omega arith)
@@ -66,7 +66,7 @@ module _ (bytes : List ℕ) where
       go (granted l) f h = laid-from bytes l f .1
       go (denied r) f h = absurd (let z : _≡_ {A = ℕ} 0 1 = cc in omega arith)
 
-  pub parts-of-read : (s : Sections) → reading bytes ≡ granted s → partsOf bytes ≡ fromRoles bytes (layoutOf bytes) 0
+  pub parts-of-read : (s : Sections) → reading bytes ≡ granted s → partsOf bytes ≡ piecesFromRoles bytes (layoutOf bytes) 0
   unfolding partsOf
   parts-of-read s e = rw e
 

@@ -8,7 +8,7 @@ use Rattle.std.specs.declared.option.Option.{Option}
 use Rattle.std.specs.declared.option.Option.the-variants.{Some, None}
 use Rattle.denial.specs.declared.Report.{Report}
 use Rattle.denial.specs.declared.Layer.the-variants.{Trailer}
-use Rattle.denial.specs.Denials.{Answer, granted, denied, says}
+use Rattle.denial.specs.Denials.{Answer, granted, denied, reported}
 use Rattle.meaning.specs.Bounded.{first}
 use Rattle.book.specs.declared.trailer.Section.{Section}
 use Rattle.book.specs.declared.trailer.Layout.{Layout}
@@ -63,10 +63,10 @@ unlessBad (Some k) report rest = denied (report k)
 unfoldable pub laying : List ℕ → Answer Layout
 laying bytes =
     cond (leb 16 (length bytes) && leb (length bytes) 8192)
-    (unlessBad (first 4 (badCount bytes)) (λ j. says 2 (trailerStart bytes + 4 * j + 2) Trailer)
-    (unlessBad (first 4 (badPlace bytes)) (λ j. says 3 (trailerStart bytes + 4 * j) Trailer)
+    (unlessBad (first 4 (badCount bytes)) (λ j. reported 2 (trailerStart bytes + 4 * j + 2) Trailer)
+    (unlessBad (first 4 (badPlace bytes)) (λ j. reported 3 (trailerStart bytes + 4 * j) Trailer)
     (granted (layoutOf bytes))))
-    (denied (says 1 (length bytes) Trailer))
+    (denied (reported 1 (length bytes) Trailer))
 
 -- what a layout that was granted is, in a book of so many bytes
 pub record Laid (size : ℕ) (l : Layout) : Type 0 where

@@ -50,40 +50,40 @@ targetOf bytes l AtEnd = 0
 
 -- what comes from the byte `at` on: a note, if there are bytes before the next section, then the section, and so on
 module _ (bytes : List ℕ) (l : Layout) where
-  abbrev pub fromTrailer : ℕ → List Piece
-  fromTrailer at = noteAt bytes at (trailerStart bytes) ++ piece ofTrailer (trailerStart bytes) (cut bytes (trailerStart bytes) 16) ∷ []
+  abbrev pub piecesFromTrailer : ℕ → List Piece
+  piecesFromTrailer at = noteAt bytes at (trailerStart bytes) ++ piece ofTrailer (trailerStart bytes) (cut bytes (trailerStart bytes) 16) ∷ []
 
-  abbrev pub fromRules : ℕ → List Piece
-  fromRules at =
+  abbrev pub piecesFromRules : ℕ → List Piece
+  piecesFromRules at =
       noteAt bytes at (l .rules .place)
-      ++ piece ofRules (l .rules .place) (cut bytes (l .rules .place) (2 * l .rules .count)) ∷ fromTrailer (l .rules .place + 2 * l .rules .count)
+      ++ piece ofRules (l .rules .place) (cut bytes (l .rules .place) (2 * l .rules .count)) ∷ piecesFromTrailer (l .rules .place + 2 * l .rules .count)
 
-  abbrev pub fromConcepts : ℕ → List Piece
-  fromConcepts at =
+  abbrev pub piecesFromConcepts : ℕ → List Piece
+  piecesFromConcepts at =
       noteAt bytes at (l .concepts .place)
-      ++ piece ofConcepts (l .concepts .place) (cut bytes (l .concepts .place) (4 * l .concepts .count)) ∷ fromRules (l .concepts .place + 4 * l .concepts .count)
+      ++ piece ofConcepts (l .concepts .place) (cut bytes (l .concepts .place) (4 * l .concepts .count)) ∷ piecesFromRules (l .concepts .place + 4 * l .concepts .count)
 
-  abbrev pub fromPairs : ℕ → List Piece
-  fromPairs at =
+  abbrev pub piecesFromPairs : ℕ → List Piece
+  piecesFromPairs at =
       noteAt bytes at (l .pairs .place)
-      ++ piece ofPairs (l .pairs .place) (cut bytes (l .pairs .place) (2 * l .pairs .count)) ∷ fromConcepts (l .pairs .place + 2 * l .pairs .count)
+      ++ piece ofPairs (l .pairs .place) (cut bytes (l .pairs .place) (2 * l .pairs .count)) ∷ piecesFromConcepts (l .pairs .place + 2 * l .pairs .count)
 
-  abbrev pub fromRoles : ℕ → List Piece
-  fromRoles at =
+  abbrev pub piecesFromRoles : ℕ → List Piece
+  piecesFromRoles at =
       noteAt bytes at (l .roles .place)
-      ++ piece ofRoles (l .roles .place) (cut bytes (l .roles .place) (l .roles .count)) ∷ fromPairs (l .roles .place + l .roles .count)
+      ++ piece ofRoles (l .roles .place) (cut bytes (l .roles .place) (l .roles .count)) ∷ piecesFromPairs (l .roles .place + l .roles .count)
 
   abbrev pub coming : Stage → ℕ → List Piece
-  coming AtRoles at = fromRoles at
-  coming AtPairs at = fromPairs at
-  coming AtConcepts at = fromConcepts at
-  coming AtRules at = fromRules at
-  coming AtTrailer at = fromTrailer at
+  coming AtRoles at = piecesFromRoles at
+  coming AtPairs at = piecesFromPairs at
+  coming AtConcepts at = piecesFromConcepts at
+  coming AtRules at = piecesFromRules at
+  coming AtTrailer at = piecesFromTrailer at
   coming AtEnd at = []
 
 -- the parts of a book that is read; none of one that is refused
 abbrev pub partsIf : Answer Sections → List ℕ → List Piece
-partsIf (granted s) bytes = fromRoles bytes (layoutOf bytes) 0
+partsIf (granted s) bytes = piecesFromRoles bytes (layoutOf bytes) 0
 partsIf (denied r) bytes = []
 
 unfoldable pub partsOf : List ℕ → List Piece

@@ -3,10 +3,10 @@ use Prim.Native.Nat.{ℕ, _+_, _*_, _/_}
 use mathlib.Core.List.{List}
 use lib.ListN.{length, take, drop}
 use Rattle.denial.specs.declared.Layer.the-variants.{Records}
-use Rattle.denial.specs.Denials.{Answer, granted, says, andThen}
+use Rattle.denial.specs.Denials.{Answer, granted, reported, andThen}
 use Rattle.book.specs.declared.trailer.Layout.{Layout}
 use Rattle.book.specs.Sections.{Sections}
-use Rattle.book.specs.Records.{firstBadRole, firstBadPair, firstBadConcept, firstBadRule}
+use Rattle.book.specs.Records.{firstBadRole, firstUnfit, firstBadConcept}
 use Rattle.book.specs.Layouts.{laying, unlessBad}
 
 -- so many bytes from a place on
@@ -24,10 +24,10 @@ sectionsOf bytes l = record {
 -- the sections, or the first bad record: roles, then pairs, then concepts, then rules; the detail is its first byte
 unfoldable pub checking : Layout → Sections → Answer Sections
 checking l s =
-    unlessBad (firstBadRole (s .roles)) (λ k. says 4 (l .roles .place + k) Records)
-    (unlessBad (firstBadPair (length (s .roles)) (s .pairs)) (λ k. says 5 (l .pairs .place + 2 * k) Records)
-    (unlessBad (firstBadConcept (length (s .roles)) (s .concepts)) (λ k. says 6 (l .concepts .place + 4 * k) Records)
-    (unlessBad (firstBadRule (length (s .concepts) / 4) (s .rules)) (λ k. says 7 (l .rules .place + 2 * k) Records)
+    unlessBad (firstBadRole (s .roles)) (λ k. reported 4 (l .roles .place + k) Records)
+    (unlessBad (firstUnfit (length (s .roles)) (s .pairs)) (λ k. reported 5 (l .pairs .place + 2 * k) Records)
+    (unlessBad (firstBadConcept (length (s .roles)) (s .concepts)) (λ k. reported 6 (l .concepts .place + 4 * k) Records)
+    (unlessBad (firstUnfit (length (s .concepts) / 4) (s .rules)) (λ k. reported 7 (l .rules .place + 2 * k) Records)
     (granted s))))
 
 -- the book in the bytes, or the first refusal; what the trailer's layer refuses is handed on whole

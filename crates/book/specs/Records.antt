@@ -16,9 +16,9 @@ badRole roles k = not (ltb (getD roles k 0) 2)
 abbrev pub bothBelow : ℕ → List ℕ → ℕ → Bool
 bothBelow n records k = ltb (getD records (2 * k) 0) n && ltb (getD records (2 * k + 1) 0) n
 
--- a pair: the lower role, the upper role, both of the book
-abbrev pub badPair : ℕ → List ℕ → ℕ → Bool
-badPair n pairs k = not (bothBelow n pairs k)
+-- a record of two bytes that are not both below n: a pair speaks of two roles of the book, a rule of two entries
+abbrev pub unfit : ℕ → List ℕ → ℕ → Bool
+unfit n records k = not (bothBelow n records k)
 
 -- an entry before i has the name b
 unfoldable pub named : List ℕ → ℕ → ℕ → Bool
@@ -41,25 +41,18 @@ fittingAt n concepts i =
 abbrev pub badConcept : ℕ → List ℕ → ℕ → Bool
 badConcept n concepts i = not (fittingAt n concepts i && eqb (getD concepts (4 * i + 3) 0) 0)
 
--- a rule: two entries of the book
-abbrev pub badRule : ℕ → List ℕ → ℕ → Bool
-badRule n rules k = not (bothBelow n rules k)
-
 abbrev pub firstBadRole : List ℕ → Option ℕ
 firstBadRole roles = first (length roles) (badRole roles)
 
-abbrev pub firstBadPair : ℕ → List ℕ → Option ℕ
-firstBadPair n pairs = first (length pairs / 2) (badPair n pairs)
+abbrev pub firstUnfit : ℕ → List ℕ → Option ℕ
+firstUnfit n records = first (length records / 2) (unfit n records)
 
 abbrev pub firstBadConcept : ℕ → List ℕ → Option ℕ
 firstBadConcept n concepts = first (length concepts / 4) (badConcept n concepts)
-
-abbrev pub firstBadRule : ℕ → List ℕ → Option ℕ
-firstBadRule n rules = first (length rules / 2) (badRule n rules)
 
 -- no record is bad
 unfoldable pub faultless : List ℕ → List ℕ → List ℕ → List ℕ → Bool
 faultless roles pairs concepts rules =
     not (isSome (firstBadRole roles))
-    && (not (isSome (firstBadPair (length roles) pairs))
-    && (not (isSome (firstBadConcept (length roles) concepts)) && not (isSome (firstBadRule (length concepts / 4) rules))))
+    && (not (isSome (firstUnfit (length roles) pairs))
+    && (not (isSome (firstBadConcept (length roles) concepts)) && not (isSome (firstUnfit (length concepts / 4) rules))))

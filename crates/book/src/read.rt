@@ -1,16 +1,15 @@
 // Reading: the layout by the trailer, then every record of every section.
 ghost use mathlib.Core.Path.{_≡_};
-ghost use Prim.Native.Nat.{ℕ, _+_, _*_, _/_, _%_, _<_, _≤_};
+ghost use Prim.Native.Nat.{_+_, _/_, _<_, _≤_};
 ghost use lib.ListN.{length, take, drop};
 ghost use mathlib.Core.List.{_++_};
 ghost use mathlib.Core.Bool.{true};
 ghost use Rattle.std.specs.Vec.{made};
 ghost use Rattle.std.specs.Options.{Cases};
 ghost use Rattle.denial.specs.Denials.{answer, recordReport};
-ghost use Rattle.meaning.specs.Bounded.{first};
 ghost use Rattle.meaning.specs.Books.{Sound};
 ghost use Rattle.book.specs.Sections.{says};
-ghost use Rattle.book.specs.Records.{badRole, badPair, badConcept, badRule, bothBelow, named, fitting, fittingAt, firstBadRole, firstBadPair, firstBadConcept, firstBadRule, faultless};
+ghost use Rattle.book.specs.Records.{bothBelow, named, fitting, fittingAt, firstBadRole, firstUnfit, firstBadConcept, faultless};
 ghost use Rattle.book.specs.Reading.{cut, checking, reading};
 ghost use Rattle.book.specs.Views.{view, Whole, sections};
 use crate::Book;
@@ -97,13 +96,13 @@ fn check_records(
     if let Some(k) = first_bad_role(roles) {
         return Err(RecordDenial::Role(layout.roles.place + k));
     }
-    if let Some(k) = first_bad_pair(roles.len(), pairs) {
+    if let Some(k) = first_unfit(roles.len(), pairs) {
         return Err(RecordDenial::Pair(layout.pairs.place + 2 * k));
     }
     if let Some(k) = first_bad_concept(roles.len(), concepts) {
         return Err(RecordDenial::Concept(layout.concepts.place + 4 * k));
     }
-    if let Some(k) = first_bad_rule(concepts.len() / 4, rules) {
+    if let Some(k) = first_unfit(concepts.len() / 4, rules) {
         return Err(RecordDenial::Rule(layout.rules.place + 2 * k));
     }
     Ok(())
@@ -121,12 +120,13 @@ fn first_bad_role(roles: &[u8]) -> Option<usize>
     None
 }
 
-fn first_bad_pair(roles: usize, pairs: &[u8]) -> Option<usize>
-    ensures value { λ r. ⌜ r ≡ firstBadPair roles (now (pairs .entry)) ⌝ }
-    ensures inside { λ r. ⌜ Cases r (Unit {0}) (λ k. k < length (now (pairs .entry)) / 2) ⌝ }
+// The first record of two bytes that are not both below n.
+fn first_unfit(n: usize, records: &[u8]) -> Option<usize>
+    ensures value { λ r. ⌜ r ≡ firstUnfit n (now (records .entry)) ⌝ }
+    ensures inside { λ r. ⌜ Cases r (Unit {0}) (λ k. k < length (now (records .entry)) / 2) ⌝ }
 {
-    for k in 0..pairs.len() / 2 {
-        if !both_below(pairs, k, roles) {
+    for k in 0..records.len() / 2 {
+        if !both_below(records, k, n) {
             return Some(k);
         }
     }
@@ -142,18 +142,6 @@ fn first_bad_concept(roles: usize, concepts: &[u8]) -> Option<usize>
             return Some(k);
         }
         if concepts[4 * k + 3] != 0 {
-            return Some(k);
-        }
-    }
-    None
-}
-
-fn first_bad_rule(entries: usize, rules: &[u8]) -> Option<usize>
-    ensures value { λ r. ⌜ r ≡ firstBadRule entries (now (rules .entry)) ⌝ }
-    ensures inside { λ r. ⌜ Cases r (Unit {0}) (λ k. k < length (now (rules .entry)) / 2) ⌝ }
-{
-    for k in 0..rules.len() / 2 {
-        if !both_below(rules, k, entries) {
             return Some(k);
         }
     }

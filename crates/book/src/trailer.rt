@@ -35,7 +35,7 @@ const MOST: [usize; 4] = [64, 256, 60, 32];
 
 const WIDTH: [usize; 4] = [1, 2, 4, 2];
 
-// The layout of a book, or the first thing wrong with its length, its counts or its places.
+// The layout of a book, or the first fault in its length, its counts or its places.
 pub fn read_layout(bytes: &[u8]) -> Result<Layout, TrailerDenial>
     ensures value { λ r. ⌜ answer (λ l. l) trailerReport r ≡ laying (now (bytes .entry)) ⌝ }
     ensures laid { λ r. ⌜ made r (λ l. Laid (length (now (bytes .entry))) l) ⌝ }

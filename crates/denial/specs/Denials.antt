@@ -12,27 +12,27 @@ use Rattle.denial.specs.declared.RecordDenial.the-variants.{Layout, Role, Pair
 use Rattle.denial.specs.declared.Denial.{Denial}
 use Rattle.denial.specs.declared.Denial.the-variants.{Unread, Entry, Sheet, RoleCount}
 
-abbrev pub says : ℕ → ℕ → Layer → Report
-says n d l = record { number = n; detail = d; layer = l }
+abbrev pub reported : ℕ → ℕ → Layer → Report
+reported n d l = record { number = n; detail = d; layer = l }
 
 abbrev pub trailerReport : TrailerDenial → Report
-trailerReport (Length d) = says 1 d Trailer
-trailerReport (Count d) = says 2 d Trailer
-trailerReport (Place d) = says 3 d Trailer
+trailerReport (Length d) = reported 1 d Trailer
+trailerReport (Count d) = reported 2 d Trailer
+trailerReport (Place d) = reported 3 d Trailer
 
 -- the lower layer's report is handed on whole
 abbrev pub recordReport : RecordDenial → Report
 recordReport (Layout lower) = trailerReport lower
-recordReport (Role d) = says 4 d Records
-recordReport (Pair d) = says 5 d Records
-recordReport (Concept d) = says 6 d Records
-recordReport (Rule d) = says 7 d Records
+recordReport (Role d) = reported 4 d Records
+recordReport (Pair d) = reported 5 d Records
+recordReport (Concept d) = reported 6 d Records
+recordReport (Rule d) = reported 7 d Records
 
 abbrev pub denialReport : Denial → Report
 denialReport (Unread lower) = recordReport lower
-denialReport (Entry d) = says 8 d Register
-denialReport (Sheet d) = says 10 d Register
-denialReport (RoleCount d) = says 12 d Register
+denialReport (Entry d) = reported 8 d Register
+denialReport (Sheet d) = reported 10 d Register
+denialReport (RoleCount d) = reported 12 d Register
 
 abbrev pub fromTrailer : TrailerDenial → RecordDenial
 fromTrailer lower = Layout lower

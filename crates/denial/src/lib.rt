@@ -137,15 +137,15 @@ impl Denial {
 pub impl From<TrailerDenial> for RecordDenial as RecordDenialFrom {
     ghost converts = { λ lower r. r ≡ fromTrailer lower };
 
-    fn from(lower: TrailerDenial) -> RecordDenial {
-        RecordDenial::Layout(lower)
+    fn from(denial: TrailerDenial) -> RecordDenial {
+        RecordDenial::Layout(denial)
     }
 }
 
 pub impl From<RecordDenial> for Denial as DenialFrom {
     ghost converts = { λ lower r. r ≡ fromRecord lower };
 
-    fn from(lower: RecordDenial) -> Denial {
-        Denial::Unread(lower)
+    fn from(denial: RecordDenial) -> Denial {
+        Denial::Unread(denial)
     }
 }

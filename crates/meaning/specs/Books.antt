@@ -42,8 +42,21 @@ Passes W r = (x y z : ℕ) → x < W .size → y < W .size → z < W .size → W
 abbrev pub Obeys : Interpretation → (ℕ → Concept) → ℕ → ℕ → Type 0
 Obeys W concept c d = (x : ℕ) → x < W .size → holds W concept c x ≡ true → holds W concept d x ≡ true
 
--- the world keeps the book under the hierarchy
+-- where a role is below another, its pairs are pairs of the other
+abbrev pub KeepsInclusions : (ℕ → ℕ → Bool) → Interpretation → Type 0
+KeepsInclusions below W = (r s : ℕ) → below r s ≡ true → Includes W r s
+
+-- the transitive roles are transitive in the world
+abbrev pub KeepsTransitivity : (ℕ → Bool) → Interpretation → Type 0
+KeepsTransitivity transitive W = (r : ℕ) → transitive r ≡ true → Passes W r
+
+-- every rule is obeyed
+abbrev pub KeepsRules : Book → Interpretation → Type 0
+KeepsRules B W = (k : ℕ) → k < B .rules → Obeys W (B .concept) (B .rule k .premise) (B .rule k .conclusion)
+
+-- the world, of one individual at least, keeps the book under the hierarchy
 pub record Keeps (H : RoleBox) (B : Book) (W : Interpretation) : Type 0 where
-  pub inclusions : (r s : ℕ) → H .below r s ≡ true → Includes W r s
-  pub transitivity : (r : ℕ) → H .transitive r ≡ true → Passes W r
-  pub rules : (k : ℕ) → k < B .rules → Obeys W (B .concept) (B .rule k .premise) (B .rule k .conclusion)
+  pub inhabited : 0 < W .size
+  pub inclusions : KeepsInclusions (H .below) W
+  pub transitivity : KeepsTransitivity (H .transitive) W
+  pub rules : KeepsRules B W

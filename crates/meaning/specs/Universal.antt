@@ -74,3 +74,17 @@ withUniversal H = record {
   below = universalUnder (H .count) (H .below);
   transitive = λ r. ltb r (universalSize (H .count)) && universalPassing (H .count) (H .transitive) r;
 }
+
+-- what the universal role adds to an order of n roles, with u and p underneath, in the words of the subject
+pub record AddsUniversal (n : ℕ) (u : ℕ → ℕ → Bool) (p : ℕ → Bool) : Type 0 where
+  -- there is one role more
+  pub count : universalSize n ≡ n + 1
+  -- every role is below it, itself included
+  pub above : (r : ℕ) → r ≤ n → universalUnder n u r n ≡ true
+  -- it is below itself alone
+  pub alone : (s : ℕ) → universalUnder n u n s ≡ true → s ≡ n
+  -- it is transitive
+  pub passing : (ltb n (universalSize n) && universalPassing n p n) ≡ true
+  -- all else is as underneath
+  pub below : (r s : ℕ) → r < n → s < n → universalUnder n u r s ≡ u r s
+  pub transitive : (r : ℕ) → r < n → (ltb r (universalSize n) && universalPassing n p r) ≡ (ltb r n && p r)

@@ -8,8 +8,7 @@ use Rattle.meaning.specs.declared.Concept.the-variants.{Nothing, Everything, N
 use Rattle.meaning.specs.declared.Quantifier.the-variants.{Exists, Forall, NoneOf}
 
 -- A finite world. The individuals are the numbers below the size, which may be any; `bears x n`: x bears the name n;
--- `joins r x y`: the role r joins x to y. A world has at least one individual: each statement about worlds is made of
--- an individual of it.
+-- `joins r x y`: the role r joins x to y. A world that keeps a book has at least one individual: `Keeps` says so.
 pub record Interpretation : Type 0 where
   pub size : ℕ
   pub bears : ℕ → ℕ → Bool

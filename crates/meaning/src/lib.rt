@@ -3,7 +3,7 @@
 // a world or a hierarchy. A trait's ghost members are its meaning, and code above is proved against them alone.
 ghost use mathlib.Core.Path.{_≡_};
 ghost use mathlib.Core.Bool.{Bool, _&&_};
-ghost use Prim.Native.Nat.{ℕ, _<_};
+ghost use Prim.Native.Nat.{ℕ};
 ghost use lib.Dec.{ltb};
 ghost use denote.Ref.{now};
 ghost use Rattle.meaning.specs.Worlds.{Interpretation, Sized, Entries-mean};
@@ -51,11 +51,11 @@ pub trait World {
     fn individuals(&self) -> usize
         ensures { λ m. ⌜ m ≡ interpretation (now (self .entry)) .size ⌝ };
 
-    // Whether x bears the name n; no where either is out of range.
+    // Whether x bears the name n; no where x is no individual, or n is from 64 on.
     fn bears(&self, x: usize, n: usize) -> bool
         ensures { λ b. ⌜ b ≡ (ltb x (interpretation (now (self .entry)) .size) && (ltb n 64 && interpretation (now (self .entry)) .bears x n)) ⌝ };
 
-    // Whether the role r joins x to y; no where one is out of range.
+    // Whether the role r joins x to y; no where x or y is no individual. Which roles there are is the interpretation's.
     fn joins(&self, r: usize, x: usize, y: usize) -> bool
         ensures { λ b. ⌜ b ≡ (ltb x (interpretation (now (self .entry)) .size) && (ltb y (interpretation (now (self .entry)) .size) && interpretation (now (self .entry)) .joins r x y)) ⌝ };
 }

@@ -1,12 +1,12 @@
 // A universal role over any hierarchy.
 ghost use mathlib.Core.Path.{_≡_};
 ghost use mathlib.Core.Bool.{cond};
-ghost use Prim.Native.Nat.{ℕ};
 ghost use lib.Dec.{ltb};
 ghost use denote.Ref.{now};
-ghost use Rattle.denial.specs.Denials.{answer, granted, denied, says, denialReport};
+ghost use Rattle.denial.specs.Denials.{answer, granted, denied, reported, denialReport};
 ghost use Rattle.denial.specs.declared.Layer.the-variants.{Register};
-ghost use Rattle.meaning.specs.Universal.{universalSize, universalUnder, universalPassing, universal-law};
+ghost use Rattle.meaning.specs.Universal.{universalSize, universalUnder, universalPassing, universal-law, AddsUniversal};
+ghost use Rattle.std.specs.Vec.{made};
 use denial::Denial;
 use meaning::Hierarchy;
 use meaning::Order;
@@ -24,7 +24,8 @@ pub struct Universal<'h, H: Hierarchy> {
 impl<'h, H: Hierarchy> Universal<'h, H> {
     // Refused where the hierarchy has all the numbers.
     pub fn over(base: &'h H) -> Result<Universal<'h, H>, Denial>
-        ensures { λ r. ⌜ answer (λ x. now (x .base)) denialReport r ≡ cond (ltb (H·Order .size (now (base .entry))) 64) (granted (now (base .entry))) (denied (says 12 (H·Order .size (now (base .entry))) Register)) ⌝ }
+        ensures value { λ r. ⌜ answer (λ x. now (x .base)) denialReport r ≡ cond (ltb (H·Order .size (now (base .entry))) 64) (granted (now (base .entry))) (denied (reported 12 (H·Order .size (now (base .entry))) Register)) ⌝ }
+        ensures adds { λ r. ⌜ made r (λ x. AddsUniversal (H·Order .size (now (x .base))) (H·Order .under (now (x .base))) (H·Hierarchy .passing (now (x .base)))) ⌝ }
     {
         let n = base.count();
         if n < ROLES {

@@ -1,44 +1,9 @@
-// The lines that answer calls.
-ghost use mathlib.Core.Path.{_≡_};
-ghost use Rattle.std.specs.Of.String.{string-bytes};
-ghost use Rattle.std.specs.Vec.{made};
-ghost use Rattle.script.specs.Lines.{layerName, deniedLine, yesLine};
+// The lines of the parts of a book.
 use book::parts::Part;
 use book::parts::Parts;
 use book::parts::PartsIterator;
-use denial::Layer;
-use denial::Report;
 use std::alloc::AllocError;
 use std::alloc::Global;
-
-pub fn yes_or_no(heap: Global, yes: bool) -> Result<String, AllocError>
-    ensures { λ r. ⌜ made r (λ s. string-bytes s ≡ yesLine yes) ⌝ }
-{
-    String::from_str(heap, if yes { "yes\n" } else { "no\n" })
-}
-
-fn layer_name(layer: Layer) -> &'static str
-    ensures { λ r. ⌜ now r ≡ layerName layer ⌝ }
-{
-    match layer {
-        Layer::Trailer => "trailer",
-        Layer::Records => "records",
-        Layer::Register => "register",
-    }
-}
-
-// The line of a refusal.
-pub fn denied(heap: Global, report: Report) -> Result<String, AllocError>
-    ensures { λ r. ⌜ made r (λ s. string-bytes s ≡ deniedLine report) ⌝ }
-{
-    let Report {
-        number,
-        detail,
-        layer,
-    } = report;
-    let name = layer_name(layer);
-    format!(heap, "denied {number} {detail} {name}\n")
-}
 
 // A line for each part of a book that is read: its kind, its place, its length and its bytes.
 pub fn parts(heap: Global, bytes: &[u8]) -> Result<String, AllocError> {

@@ -1,6 +1,13 @@
 // The calls of a script, as they stand on its lines.
 
-// One of the hierarchies that a book gives: its closure rows, or its told pairs, alone or under a universal role.
+// One of the two hierarchies of a book: its closure rows, or its told pairs.
+#[derive(Clone, Copy)]
+pub enum Base {
+    Closed,
+    Told,
+}
+
+// One of these, alone or under a universal role.
 #[derive(Clone, Copy)]
 pub enum Source {
     Closed,
@@ -21,7 +28,7 @@ pub enum Call<'a> {
     // how many words, and those that are not 0: for each its place, a colon and its hex digits
     Sheet(usize, &'a str),
     Judge(usize),
-    Keeps(Source),
+    Keeps(Base),
     // no call
     Bad,
 }
@@ -81,8 +88,8 @@ fn judge<'a>(rest: &str) -> Option<Call<'a>> {
 
 fn keeps<'a>(rest: &str) -> Option<Call<'a>> {
     match rest {
-        "closed" => Some(Call::Keeps(Source::Closed)),
-        "told" => Some(Call::Keeps(Source::Told)),
+        "closed" => Some(Call::Keeps(Base::Closed)),
+        "told" => Some(Call::Keeps(Base::Told)),
         _ => None,
     }
 }
@@ -100,7 +107,7 @@ impl Source {
 }
 
 // A decimal number, digits alone.
-fn number(text: &str) -> Option<usize> {
+pub fn number(text: &str) -> Option<usize> {
     if text.starts_with('+') {
         return None;
     }

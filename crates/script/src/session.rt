@@ -1,27 +1,18 @@
 // A session: the book, and the world drawn for it.
+ghost use mathlib.Core.Path.{_≡_};
 ghost use Prim.Native.Nat.{_<_};
 ghost use Rattle.std.specs.Options.{Cases};
+ghost use Rattle.script.specs.Digits.{digitOf};
 use crate::answer;
 use crate::call::Call;
-use crate::call::Source;
+use crate::call::number;
+use crate::questions;
 use book::Book;
 use book::read::read;
 use denial::Denial;
-use denial::DenialFrom;
 use denial::RecordDenial;
-use meaning::Hierarchy;
-use meaning::Order;
-use roles::rows::Rows;
-use roles::rows::RowsHierarchy;
-use roles::rows::RowsOrder;
-use roles::told::Told;
-use roles::told::ToldHierarchy;
-use roles::told::ToldOrder;
-use roles::universal::Universal;
-use roles::universal::UniversalHierarchy;
-use roles::universal::UniversalOrder;
-use sheet::Sheet;
-use sheet::sheet::SheetWorld;
+use lines::denied;
+use lines::yes_or_no;
 use std::alloc::AllocError;
 use std::alloc::Global;
 
@@ -87,18 +78,14 @@ impl Session {
         let Some(words) = words_of(heap, count, words)? else {
             return Ok(None);
         };
-        let made = match self.book {
-            Ok(book) => individuals(words.as_slice(), &book),
-            Err(lower) => Err(Denial::Unread(lower)),
-        };
-        match made {
+        match questions::drawn(self.book, words.as_slice()) {
             Ok(m) => {
                 self.words = Some(words);
                 Ok(Some(format!(heap, "sheet {m}\n")?))
             }
             Err(denial) => {
                 self.words = None;
-                Ok(Some(answer::denied(heap, denial.report())?))
+                Ok(Some(denied(heap, denial.report())?))
             }
         }
     }
@@ -106,7 +93,7 @@ impl Session {
     // The answer to a call that asks the book or the world.
     fn ask(&self, call: Call<'_>) -> Result<String, AllocError> {
         match &self.book {
-            Err(lower) => answer::denied(self.heap, lower.report()),
+            Err(lower) => denied(self.heap, lower.report()),
             Ok(book) => self.ask_book(book, call),
         }
     }
@@ -122,8 +109,8 @@ impl Session {
                 format!(heap, "read {roles} {pairs} {entries} {rules}\n")
             }
             Call::Parts => answer::parts(heap, self.bytes.as_slice()),
-            Call::Below(source, r, s) => said(heap, below(book, source, r, s)),
-            Call::Transitive(source, r) => said(heap, transitive(book, source, r)),
+            Call::Below(source, r, s) => said(heap, questions::below(book, source, r, s)),
+            Call::Transitive(source, r) => said(heap, questions::transitive(book, source, r)),
             _ => match &self.words {
                 Some(words) => ask_world(heap, book, words.as_slice(), call),
                 None => String::from_str(heap, "no world\n"),
@@ -140,14 +127,14 @@ fn ask_world(
     call: Call<'_>,
 ) -> Result<String, AllocError> {
     match call {
-        Call::Judge(entry) => match judged(book, words, entry) {
+        Call::Judge(entry) => match questions::judged(book, words, entry) {
             Ok(set) => format!(heap, "set {set:x}\n"),
-            Err(denial) => answer::denied(heap, denial.report()),
+            Err(denial) => denied(heap, denial.report()),
         },
-        Call::Keeps(source) => match kept(book, words, source) {
+        Call::Keeps(base) => match questions::kept(book, words, base) {
             Ok(true) => String::from_str(heap, "keeps yes\n"),
             Ok(false) => String::from_str(heap, "keeps no\n"),
-            Err(denial) => answer::denied(heap, denial.report()),
+            Err(denial) => denied(heap, denial.report()),
         },
         _ => Ok(String::new(heap)),
     }
@@ -155,48 +142,8 @@ fn ask_world(
 
 fn said(heap: Global, outcome: Result<bool, Denial>) -> Result<String, AllocError> {
     match outcome {
-        Ok(yes) => answer::yes_or_no(heap, yes),
-        Err(denial) => answer::denied(heap, denial.report()),
-    }
-}
-
-fn below(book: &Book, source: Source, r: usize, s: usize) -> Result<bool, Denial> {
-    let rows = Rows::closed(book);
-    let told = Told::new(book);
-    match source {
-        Source::Closed => Ok(rows.below(r, s)),
-        Source::Told => Ok(told.below(r, s)),
-        Source::ClosedUniversal => Ok(Universal::over(&rows)?.below(r, s)),
-        Source::ToldUniversal => Ok(Universal::over(&told)?.below(r, s)),
-    }
-}
-
-fn transitive(book: &Book, source: Source, r: usize) -> Result<bool, Denial> {
-    let rows = Rows::closed(book);
-    let told = Told::new(book);
-    match source {
-        Source::Closed => Ok(rows.transitive(r)),
-        Source::Told => Ok(told.transitive(r)),
-        Source::ClosedUniversal => Ok(Universal::over(&rows)?.transitive(r)),
-        Source::ToldUniversal => Ok(Universal::over(&told)?.transitive(r)),
-    }
-}
-
-// How many individuals the sheet has.
-fn individuals(words: &[u64], book: &Book) -> Result<usize, Denial> {
-    Ok(SheetWorld::individuals(&Sheet::new(words, book)?))
-}
-
-fn judged(book: &Book, words: &[u64], entry: usize) -> Result<u64, Denial> {
-    let world = Sheet::new(words, book)?;
-    sheet::judge(&world, book, entry)
-}
-
-fn kept(book: &Book, words: &[u64], source: Source) -> Result<bool, Denial> {
-    let world = Sheet::new(words, book)?;
-    match source {
-        Source::Closed => sheet::keeps(&world, &Rows::closed(book), book),
-        _ => sheet::keeps(&world, &Told::new(book), book),
+        Ok(yes) => yes_or_no(heap, yes),
+        Err(denial) => denied(heap, denial.report()),
     }
 }
 
@@ -235,16 +182,25 @@ fn words_of(heap: Global, count: usize, named: &str) -> Result<Option<Vec<u64>>,
 
 fn item_of(item: &str) -> Option<(usize, u64)> {
     let (place, word) = item.split_once(':')?;
-    if word.starts_with('+') || place.starts_with('+') {
+    Some((number(place)?, word_of(word)?))
+}
+
+// The word that 1 to 16 hex digits write.
+fn word_of(text: &str) -> Option<u64> {
+    let digits = text.as_bytes();
+    if digits.len() == 0 || digits.len() > 16 {
         return None;
     }
-    let place = place.parse::<usize>().ok()?;
-    let word = u64::from_str_radix(word, 16).ok()?;
-    Some((place, word))
+    let mut word = 0u64;
+    for k in 0..digits.len() {
+        word = (word << 4) | digit(digits[k])? as u64;
+    }
+    Some(word)
 }
 
 fn digit(b: u8) -> Option<u8>
-    ensures { λ r. ⌜ Cases r (Unit {0}) (λ d. d < 16) ⌝ }
+    ensures value { λ r. ⌜ r ≡ digitOf b ⌝ }
+    ensures small { λ r. ⌜ Cases r (Unit {0}) (λ d. d < 16) ⌝ }
 {
     match b {
         b'0'..=b'9' => Some(b - b'0'),

@@ -5,7 +5,7 @@ use mathlib.Core.List.{List}
 use lib.Dec.{ltb}
 use lib.ListN.{getD}
 use Rattle.words.specs.Sets.{setOf}
-use Rattle.denial.specs.Denials.{Answer, granted, denied, says}
+use Rattle.denial.specs.Denials.{Answer, granted, denied, reported}
 use Rattle.denial.specs.declared.Layer.the-variants.{Register}
 use Rattle.meaning.specs.Worlds.{Interpretation, holds}
 use Rattle.meaning.specs.declared.Concept.{Concept}
@@ -14,7 +14,7 @@ use Rattle.meaning.specs.Books.{Book}
 
 -- the set of the individuals in entry i, where the book has such an entry
 abbrev pub judged : Interpretation → Book → ℕ → Answer ℕ
-judged W B i = cond (ltb i (B .entries)) (granted (setOf (W .size) (holds W (B .concept) i))) (denied (says 8 i Register))
+judged W B i = cond (ltb i (B .entries)) (granted (setOf (W .size) (holds W (B .concept) i))) (denied (reported 8 i Register))
 
 -- a name that a world can be asked for
 abbrev pub Asked : Concept → Type 0

@@ -10,7 +10,7 @@ use lib.ListN.{length, getD}
 use Rattle.std.specs.declared.option.Option.{Option}
 use Rattle.std.specs.declared.option.Option.the-variants.{Some, None}
 use Rattle.words.specs.Sets.{has}
-use Rattle.denial.specs.Denials.{Answer, granted, denied, says}
+use Rattle.denial.specs.Denials.{Answer, granted, denied, reported}
 use Rattle.denial.specs.declared.Layer.the-variants.{Register}
 use Rattle.meaning.specs.Bounded.{first}
 use Rattle.meaning.specs.Worlds.{Interpretation, Sized}
@@ -28,7 +28,7 @@ abbrev pub firstStray : ℕ → List ℕ → Option ℕ
 firstStray roles words = first (64 + roles * getD words 0 0) (λ k. strays (getD words 0 0) (getD words (k + 1) 0))
 
 abbrev pub refused : ℕ → Answer (List ℕ)
-refused detail = denied (says 10 detail Register)
+refused detail = denied (reported 10 detail Register)
 
 abbrev pub unlessStray : List ℕ → Option ℕ → Answer (List ℕ)
 unlessStray words None = granted words

@@ -2,7 +2,7 @@
 ghost use mathlib.Core.Path.{_≡_};
 ghost use mathlib.Core.Bool.{cond};
 ghost use Prim.Native.Nat.{ℕ, _+_, _^_, _<_, _≤_};
-ghost use lib.ListN.{length, getD};
+ghost use lib.ListN.{getD};
 ghost use Rattle.words.specs.Sets.{has, setOf};
 ghost use Rattle.denial.specs.Denials.{answer, denialReport};
 ghost use Rattle.meaning.specs.declared.Concept.the-variants.{Restriction};

@@ -1,14 +1,13 @@
 // Whether a world keeps a book under a hierarchy of the book's roles.
-ghost use mathlib.Core.Path.{_≡_};
 ghost use mathlib.Core.Bool.{_&&_};
-ghost use Prim.Native.Nat.{ℕ, _<_};
+ghost use Prim.Native.Nat.{_<_};
 ghost use lib.Dec.{ltb};
 ghost use Rattle.std.specs.Orderings.{Decides};
-ghost use Rattle.meaning.specs.Books.{Includes, Passes};
+ghost use Rattle.meaning.specs.Books.{Includes, Passes, KeepsInclusions, KeepsTransitivity, KeepsRules};
 ghost use Rattle.meaning.specs.Orders.{roleBox};
 ghost use Rattle.book.specs.Sections.{says};
 ghost use Rattle.book.specs.Views.{view};
-ghost use Rattle.sheet.specs.Keeping.{RowWithin, KeepsInclusions, KeepsTransitivity, KeepsRules, KeepsAnswer};
+ghost use Rattle.sheet.specs.Keeping.{RowWithin, KeepsAnswer};
 use crate::judgement::extensions;
 use crate::judgement::successors;
 use book::Book;
@@ -67,7 +66,9 @@ fn keeps_rules<W: World>(world: &W, book: &Book) -> bool
     let n = book.rule_count();
     for k in 0..n {
         let rule = book.rule(k);
-        if !words::subset(sets[rule.premise as usize], sets[rule.conclusion as usize]) {
+        let premise = sets[rule.premise as usize];
+        let conclusion = sets[rule.conclusion as usize];
+        if !words::subset(premise, conclusion) {
             return false;
         }
     }

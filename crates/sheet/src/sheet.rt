@@ -1,6 +1,6 @@
 // A sheet: a world of 1 to 64 individuals, written as 64-bit words for the roles of a book.
 ghost use mathlib.Core.Path.{_≡_};
-ghost use Prim.Native.Nat.{ℕ, _+_, _*_, _<_, _≤_};
+ghost use Prim.Native.Nat.{_<_, _≤_};
 ghost use lib.ListN.{length, getD};
 ghost use denote.Ref.{now};
 ghost use Rattle.std.specs.Vec.{made};

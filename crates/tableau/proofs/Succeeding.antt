@@ -86,6 +86,7 @@ module _ (H : RoleBox) (K : Book) (P : Opens H K) where
     found-keeps =
         let F = follows (withUniversal H) (universal-ordered H (P .ordered) (P .few)) (tableOf H K) ls in
         record {
+          inhabited = L .some;
           inclusions = λ r t e x y l m j. F .wider r t x y (universal-below H (P .ordered) (P .few) r t e) l m j;
           transitivity = λ r e x y z l m o j k. F .passes r x y z (universal-transitive H (P .ordered) (P .few) r e) l m o j k;
           rules = rules-kept;

@@ -1,9 +1,7 @@
 // Going through the parts of a book.
 ghost use mathlib.Core.Path.{_≡_};
-ghost use mathlib.Core.List.{List};
-ghost use Prim.Native.Nat.{ℕ};
 ghost use lib.ListN.{length};
-ghost use Rattle.book.specs.Pieces.{seen, partsOf, Tiles, targetOf};
+ghost use Rattle.book.specs.Pieces.{partsOf, Tiles, targetOf};
 ghost use Rattle.book.specs.Coming.{comingOf, Yields};
 use crate::parts::Part;
 use crate::parts::Parts;

@@ -7,30 +7,30 @@ returns-in-Some c =
     let s = sections (c .args .roles .now) (c .args .pairs .now) (c .args .concepts .now) (c .args .rules .now) in
     record { value = checking-role (c .args .layout) s (c .in-Some .k) (c .in-Some .ensures tt .value); good = tt }
 
-pub returns-in-Some-first-bad-pair : need.returns-in-Some-first-bad-pair
-returns-in-Some-first-bad-pair c =
+pub returns-in-Some-first-unfit : need.returns-in-Some-first-unfit
+returns-in-Some-first-unfit c =
     let s = sections (c .args .roles .now) (c .args .pairs .now) (c .args .concepts .now) (c .args .rules .now) in
     let a = c .in-rest .ensures tt .value in
-    record { value = checking-pair (c .args .layout) s a (c .in-Some-first-bad-pair .k) (c .in-Some-first-bad-pair .ensures tt .value); good = tt }
+    record { value = checking-pair (c .args .layout) s a (c .in-Some-first-unfit .k) (c .in-Some-first-unfit .ensures tt .value); good = tt }
 
 pub returns-in-Some-first-bad-concept : need.returns-in-Some-first-bad-concept
 returns-in-Some-first-bad-concept c =
     let s = sections (c .args .roles .now) (c .args .pairs .now) (c .args .concepts .now) (c .args .rules .now) in
     let a = c .in-rest .ensures tt .value in
-    let b = c .in-rest-first-bad-pair .ensures tt .value in
+    let b = c .in-rest-first-unfit .ensures tt .value in
     record {
       value = checking-concept (c .args .layout) s a b (c .in-Some-first-bad-concept .k) (c .in-Some-first-bad-concept .ensures tt .value);
       good = tt;
     }
 
-pub returns-in-Some-first-bad-rule : need.returns-in-Some-first-bad-rule
-returns-in-Some-first-bad-rule c =
+pub returns-in-Some-first-unfit-2 : need.returns-in-Some-first-unfit-2
+returns-in-Some-first-unfit-2 c =
     let s = sections (c .args .roles .now) (c .args .pairs .now) (c .args .concepts .now) (c .args .rules .now) in
     let a = c .in-rest .ensures tt .value in
-    let b = c .in-rest-first-bad-pair .ensures tt .value in
+    let b = c .in-rest-first-unfit .ensures tt .value in
     let d = c .in-rest-first-bad-concept .ensures tt .value in
     record {
-      value = checking-rule (c .args .layout) s a b d (c .in-Some-first-bad-rule .k) (c .in-Some-first-bad-rule .ensures tt .value);
+      value = checking-rule (c .args .layout) s a b d (c .in-Some-first-unfit-2 .k) (c .in-Some-first-unfit-2 .ensures tt .value);
       good = tt;
     }
 
@@ -38,7 +38,7 @@ pub returns : need.returns
 returns c =
     let s = sections (c .args .roles .now) (c .args .pairs .now) (c .args .concepts .now) (c .args .rules .now) in
     let a = c .in-rest .ensures tt .value in
-    let b = c .in-rest-first-bad-pair .ensures tt .value in
+    let b = c .in-rest-first-unfit .ensures tt .value in
     let d = c .in-rest-first-bad-concept .ensures tt .value in
-    let e = c .in-rest-first-bad-rule .ensures tt .value in
+    let e = c .in-rest-first-unfit-2 .ensures tt .value in
     record { value = checking-good (c .args .layout) s a b d e; good = no-fault (c .args .layout) s a b d e }

@@ -1,6 +1,6 @@
 use mathlib.Core.Path.{_≡_, sym, ap, _∙_}
 use Rattle.book.specs.Views.{view}
-use Rattle.book.specs.Pieces.{fromRoles}
+use Rattle.book.specs.Pieces.{piecesFromRoles}
 use Rattle.book.proofs.Layouting.{laid-from}
 use Rattle.book.proofs.Tiling.{tiles, parts-of-read, parts-of-refused, unlaid}
 use Rattle.book.proofs.parts.Parts.new.Needs.{in-Ok·in-rest-read-layout, in-rest}
@@ -11,7 +11,7 @@ returns-in-Ok-read-layout c =
     let bs = c .args .bytes .now in
     record {
       parts =
-          ap (λ l. fromRoles bs l 0) (laid-from bs (c .in-Ok-read-layout .layout) (sym (c .in-Ok-read-layout .ensures tt .value)) .0)
+          ap (λ l. piecesFromRoles bs l 0) (laid-from bs (c .in-Ok-read-layout .layout) (sym (c .in-Ok-read-layout .ensures tt .value)) .0)
           ∙ sym (parts-of-read bs _ (sym (c .in-Ok .ensures tt .value)));
       tiles = tiles bs;
     }
