@@ -10,7 +10,7 @@ use Rattle.denial.specs.declared.TrailerDenial.the-variants.{Length, Count, Pl
 use Rattle.denial.specs.declared.RecordDenial.{RecordDenial}
 use Rattle.denial.specs.declared.RecordDenial.the-variants.{Layout, Role, Pair, Concept, Rule}
 use Rattle.denial.specs.declared.Denial.{Denial}
-use Rattle.denial.specs.declared.Denial.the-variants.{Unread, Entry, Sheet, RoleCount}
+use Rattle.denial.specs.declared.Denial.the-variants.{Unread, Entry, Sheet, RoleCount, Width}
 
 abbrev pub reported : ℕ → ℕ → Layer → Report
 reported n d l = record { number = n; detail = d; layer = l }
@@ -33,6 +33,7 @@ denialReport (Unread lower) = recordReport lower
 denialReport (Entry d) = reported 8 d Register
 denialReport (Sheet d) = reported 10 d Register
 denialReport (RoleCount d) = reported 12 d Register
+denialReport (Width d) = reported 13 d Register
 
 abbrev pub fromTrailer : TrailerDenial → RecordDenial
 fromTrailer lower = Layout lower

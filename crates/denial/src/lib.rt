@@ -50,6 +50,8 @@ pub enum Denial {
     Sheet(usize),
     // the count of the hierarchy: it differs from the book's, or leaves no number for one more role
     RoleCount(usize),
+    // w, the number of working entries, which is over 64
+    Width(usize),
 }
 
 impl TrailerDenial {
@@ -127,6 +129,11 @@ impl Denial {
             },
             Denial::RoleCount(detail) => Report {
                 number: 12,
+                detail,
+                layer,
+            },
+            Denial::Width(detail) => Report {
+                number: 13,
                 detail,
                 layer,
             },

@@ -2,7 +2,7 @@
 // with one more role above all others.
 ghost use Rattle.roles.specs.Closure.{Closure-decides};
 
-mod asked;
+pub mod asked;
 mod reach;
 pub mod rows;
 pub mod told;

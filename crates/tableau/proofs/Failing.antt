@@ -4,8 +4,6 @@ use mathlib.Core.Bool.{Bool, true, false, not, cond, _&&_, _||_}
 use mathlib.Core.List.{List, [], _∷_, _++_}
 use mathlib.Core.Logic.{_⊎_, inl, inr, ⊎-elim}
 use Prim.Native.Nat.{ℕ, zero, suc, _+_, _<_}
-use lib.Dec.{leb}
-use lib.ListN.{length}
 use Rattle.std.proofs.shelf.Tests.{cases-bool, and-parts, and-cases, or-cases, or-parts, both-ways, not-true, cond-both}
 use Rattle.meaning.specs.Worlds.{Interpretation, denotes}
 use Rattle.meaning.specs.Orders.{RoleBox}
@@ -256,7 +254,7 @@ module _ (H : RoleBox) (B : Table) (T : Tabled H B) (W : Interpretation) (F : Fo
   explore-fails : (n k : ℕ) → Refutes (explore H B n k)
   unfolding explore
   explore-fails n zero st seed e = never cc
-  explore-fails n (suc k) st seed e = enter-fails (explore H B n k) (explore-fails n k) (leb n (length st)) st seed e
+  explore-fails n (suc k) st seed e = enter-fails (explore H B n k) (explore-fails n k) _ st seed e
 
 -- the search fails only where no individual of any such world satisfies its seed
 pub failure : (H : RoleBox) (B : Table) → Tabled H B → (n k : ℕ) (st : List Label) (seed : Label) → explore H B n k st seed ≡ failed

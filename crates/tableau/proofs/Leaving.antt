@@ -5,7 +5,6 @@ use mathlib.Core.List.{List, [], _∷_, _++_}
 use mathlib.Core.Logic.{inl, inr, ⊎-elim}
 use Prim.Native.Nat.{ℕ, zero, suc, _+_, _<_, _≤_}
 use native.Mathlib.Omega.{arith}
-use lib.Dec.{leb}
 use lib.ListN.{length, getD}
 use Rattle.std.specs.shelf.Lists.{All}
 use Rattle.std.proofs.shelf.Elements.{all-append, all-weaker, all-getD}
@@ -190,7 +189,7 @@ explore-leaves : (H : RoleBox) (B : Table) → ((i : ℕ) → LowerEntry i (B .e
 unfolding explore
 explore-leaves H B low P kept passed n zero st seed ls p e = never cc
 explore-leaves H B low P kept passed n (suc k) st seed ls p e =
-    enter-leaves H B P low kept passed (explore H B n k) (explore-leaves H B low P kept passed n k) (leb n (length st)) st seed ls p e
+    enter-leaves H B P low kept passed (explore H B n k) (explore-leaves H B low P kept passed n k) _ st seed ls p e
 
 -- P is a property that stays as labels grow and that passes to the seeds of successors
 pub leaves : (H : RoleBox) (B : Table) → ((i : ℕ) → LowerEntry i (B .entry i)) → (P : Label → Type 0)

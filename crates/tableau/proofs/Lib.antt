@@ -17,6 +17,7 @@ pub mod Room
 pub mod Gathering
 pub mod Tables
 pub mod Tabling
+pub mod Agreeing
 pub mod Totality
 pub mod Succeeding
 pub mod Deciding

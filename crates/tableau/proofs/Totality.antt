@@ -24,6 +24,7 @@ use Rattle.tableau.specs.Promises.{Opens, Satisfies, Seed}
 use Rattle.tableau.proofs.Tests.{implies}
 use Rattle.tableau.proofs.Meanings.{entries-mean}
 use Rattle.tableau.proofs.Tables.{entry-concept, rule-at, entry-book, entry-everywhere, transitive-cases, rooted-cases}
+use Rattle.tableau.proofs.Agreeing.{holds-agree}
 use Rattle.tableau.proofs.Tabling.{lower}
 use Rattle.tableau.proofs.Failing.{Sat}
 
@@ -61,39 +62,9 @@ module _ (H : RoleBox) (K : Book) (P : Opens H K) where
     total-role : (x y : ℕ) → total .joins (H .count) x y ≡ true
     total-role x y = cond-true (eqb (H .count) (H .count)) true (W .joins (H .count) x y) (eq-eqb (H .count) (H .count) refl)
 
-    -- a concept by other roles means in it what it meant
-    restriction-total : (q : Quantifier) (r a : ℕ) → r < H .count → (g : ℕ → ℕ → Bool) (x : ℕ)
-        → denotes total (Restriction q r a) g x ≡ denotes W (Restriction q r a) g x
-    restriction-total Exists r a l g x = any-same (W .size) _ _ (λ y m. ap (λ b. b && g a y) (other-role r x y l))
-    restriction-total Forall r a l g x = all-same (W .size) _ _ (λ y m. ap (λ b. not b || g a y) (other-role r x y l))
-    restriction-total NoneOf r a l g x = all-same (W .size) _ _ (λ y m. ap (λ b. not b || not (g a y)) (other-role r x y l))
-
-    denotes-total : (c : Concept) → ((q : Quantifier) (r a : ℕ) → c ≡ Restriction q r a → r < H .count) → (g : ℕ → ℕ → Bool) (x : ℕ)
-        → denotes total c g x ≡ denotes W c g x
-    denotes-total Nothing l g x = refl
-    denotes-total Everything l g x = refl
-    denotes-total (Name n) l g x = refl
-    denotes-total (Not a) l g x = refl
-    denotes-total (And a b) l g x = refl
-    denotes-total (Or a b) l g x = refl
-    denotes-total (Restriction q r a) l g x = restriction-total q r a (l q r a refl) g x
-
-    -- the roles of a book are others
-    role-in : (i : ℕ) → i < K .entries → (q : Quantifier) (r a : ℕ) → K .concept i ≡ Restriction q r a → r < H .count
-    role-in i l q r a e = omega (arith, P .sound .roles-in i r a q l e, P .roles)
-
-    -- so it means the same at every depth, and at its own
-    deep-total : (k i x : ℕ) → i < K .entries → deep total (K .concept) k i x ≡ deep W (K .concept) k i x
-    unfolding deep
-    deep-total zero i x l = refl
-    deep-total (suc k) i x l =
-        denotes-total (K .concept i) (role-in i l) (deep total (K .concept) k) x
-        ∙ denotes-same W i (K .concept i) (P .sound .lower i) (deep total (K .concept) k) (deep W (K .concept) k)
-        (λ a y m. deep-total k a y (omega arith)) x
-
+    -- a concept entry, which is by other roles, means in it what it meant
     total-same : (i x : ℕ) → i < K .entries → holds total (K .concept) i x ≡ holds W (K .concept) i x
-    unfolding holds
-    total-same i x l = deep-total (suc i) i x l
+    total-same = holds-agree H K P W (total .joins) other-role
 
     -- the entries mean what they say
     pub worked-means : Meaning total (entryOf H K) worked

@@ -15,7 +15,7 @@ use Rattle.tableau.specs.Working.{widthOf, seedOne}
 use Rattle.tableau.specs.Promises.{searchFrom, foundWorld}
 
 -- Book A: role 0 is transitive and below role 1. Entry 5 wants a successor's successor in entry 0 by role 0, and none in
--- it by role 1: no individual of any world is in it.
+-- it by role 1: no individual of any world that keeps the book is in it.
 abbrev pub rolesA : RoleBox
 rolesA = record { count = 2; below = λ r s. eqb r s && ltb r 2 || eqb r 0 && eqb s 1; transitive = λ r. eqb r 0 }
 

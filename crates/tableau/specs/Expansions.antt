@@ -32,7 +32,7 @@ clashAt e l i = inLabel l true i && inLabel l false i || inLabel l true i && abs
 unfoldable pub clash : Table → Label → Bool
 clash B l = any (B .width) (λ i. clashAt (B .entry i) l i)
 
--- nothing is added if an alternative is there, else the first is tried before the second
+-- nothing is added if an alternative is there (true), else the first is tried before the second
 abbrev pub oneOf : Bool → Label → Label → Label → Ways
 oneOf true x y l = One l
 oneOf false x y l = Two x y
@@ -53,7 +53,7 @@ grown (Inclusion c d) false l = One l
 grown (Inclusions lo n) true l = One (fold n (λ k. put true (lo + k)) l)
 grown (Inclusions lo n) false l = One l
 
--- entry k is taken, if the label holds it
+-- entry k is taken, if the label holds it; a label that holds both signs clashes whatever is added
 unfoldable pub taken : Entry → ℕ → Label → Ways
 taken e k l = cond (inLabel l true k) (grown e true l) (cond (inLabel l false k) (grown e false l) (One l))
 

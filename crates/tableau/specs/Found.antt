@@ -2,7 +2,7 @@
 use Prim.Native.Nat.{ℕ}
 use mathlib.Core.Bool.{Bool, true, false, _&&_, _||_}
 use mathlib.Core.List.{List}
-use lib.Dec.{eqb}
+use lib.Dec.{eqb, ltb}
 use lib.ListN.{length, getD}
 use Rattle.meaning.specs.Bounded.{any}
 use Rattle.meaning.specs.Worlds.{Interpretation}
@@ -53,3 +53,7 @@ module _ (H : RoleBox) (B : Table) (ls : List Label) where
 
   abbrev pub found : Interpretation
   found = record { size = length ls; bears = borne; joins = joined }
+
+-- the same world with the roles below n alone; another role joins nothing
+abbrev pub onlyRoles : ℕ → Interpretation → Interpretation
+onlyRoles n W = record { size = W .size; bears = W .bears; joins = λ r x y. ltb r n && W .joins r x y }

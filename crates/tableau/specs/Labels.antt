@@ -29,7 +29,7 @@ unfoldable pub anyContains : List Label → Label → Bool
 anyContains [] seed = false
 anyContains (l ∷ ls) seed = cond (contains l seed) true (anyContains ls seed)
 
--- the place of the first label that contains the seed
+-- the place of the first label that contains the seed; the length where none does
 unfoldable pub lowest : List Label → Label → ℕ
 lowest [] seed = 0
 lowest (l ∷ ls) seed = cond (contains l seed) 0 (suc (lowest ls seed))

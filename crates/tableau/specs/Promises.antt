@@ -12,16 +12,16 @@ use Rattle.tableau.specs.declared.Label.{Label}
 use Rattle.tableau.specs.Labels.{empty, inLabel}
 use Rattle.tableau.specs.Entries.{Ordered}
 use Rattle.tableau.specs.Search.{Outcome, failed, full, stands, explore}
-use Rattle.tableau.specs.Found.{found}
+use Rattle.tableau.specs.Found.{found, onlyRoles}
 use Rattle.tableau.specs.Working.{tableOf, widthOf, rooted, seedNot, seedOne}
 
 -- the search for a world with an individual that satisfies the seed, in n nodes
 abbrev pub searchFrom : RoleBox → Book → Label → ℕ → Outcome
 searchFrom H K s n = explore (withUniversal H) (tableOf H K) n n [] (rooted H K s)
 
--- the world that a search found
+-- the world that a search found, with the roles of the book
 abbrev pub foundWorld : RoleBox → Book → List Label → Interpretation
-foundWorld H K ls = found (withUniversal H) (tableOf H K) ls
+foundWorld H K ls = onlyRoles (H .count) (found (withUniversal H) (tableOf H K) ls)
 
 -- the individual x is in each entry with + of the seed, and outside each with -
 abbrev pub Satisfies : Book → Interpretation → ℕ → Label → Type 0
@@ -31,7 +31,7 @@ Satisfies K W x s = (t : Bool) (i : ℕ) → inLabel s t i ≡ true → holds W 
 abbrev pub Seed : Book → Label → Type 0
 Seed K s = (t : Bool) (i : ℕ) → inLabel s t i ≡ true → i < K .entries
 
--- a hierarchy that fits the book and leaves a number for the universal role
+-- a sound book, and a lawful hierarchy of its roles that leaves a number for the universal role; and w is at most 64
 pub record Opens (H : RoleBox) (K : Book) : Type 0 where
   pub ordered : Ordered H
   pub roles : H .count ≡ K .roles

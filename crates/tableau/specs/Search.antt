@@ -22,7 +22,7 @@ pub data Outcome : Type 0 where
 abbrev pub Searcher : Type 0
 Searcher = List Label → Label → Outcome
 
--- what comes next where the first failed; all that it made is gone
+-- what comes next where the first failed
 unfoldable pub orElse : Outcome → (Unit {0} → Outcome) → Outcome
 orElse failed next = next tt
 orElse full next = full
@@ -40,6 +40,7 @@ reuse true sub st seed = stands st
 reuse false sub st seed = sub st seed
 
 module _ (H : RoleBox) (B : Table) where
+  -- an obligation, if there is one, is met by a label that stands or by a further node
   unfoldable pub pursue : Searcher → Label → Obligation → List Label → Outcome
   pursue sub l Idle st = stands st
   pursue sub l (Wants r s a) st = reuse (anyContains st (seedOf H B l r s a)) sub st (seedOf H B l r s a)
@@ -49,17 +50,18 @@ module _ (H : RoleBox) (B : Table) where
   meetFrom sub l zero i st = stands st
   meetFrom sub l (suc d) i st = andThen (pursue sub l (obligationAt B l i) st) (meetFrom sub l d (suc i))
 
-  -- the expansions in order, each from the labels that stood before
+  -- the expansions in order, each from the labels that stood before: what a failed one made is gone
   unfoldable pub tryEach : Searcher → List Label → List Label → Outcome
   tryEach sub st [] = failed
   tryEach sub st (e ∷ es) = orElse (meetFrom sub e (B .width) 0 (st ++ e ∷ [])) (λ u. tryEach sub st es)
 
-  -- a node needs room
+  -- a node needs room; true: there is none
   unfoldable pub enter : Bool → Searcher → List Label → Label → Outcome
   enter true sub st seed = full
   enter false sub st seed = tryEach sub st (expansions B seed)
 
-  -- the search from a seed in n nodes, where the labels st stand; its depth never exceeds the room that is left
+  -- The search from a seed in n nodes, where the labels st stand, down to a depth. From a depth of n over no label the room
+  -- ends before the depth does, since each level has one label more standing.
   unfoldable pub explore : ℕ → ℕ → Searcher
   explore n zero st seed = full
   explore n (suc k) st seed = enter (leb n (length st)) (explore n k) st seed

@@ -26,6 +26,7 @@ signOf Exists s = s
 signOf Forall s = s
 signOf NoneOf s = not s
 
+-- what a signed entry obliges to
 abbrev pub obligation : Entry → Bool → Obligation
 obligation (Plain Nothing) s = Idle
 obligation (Plain Everything) s = Idle
@@ -41,6 +42,7 @@ obligation (Inclusions lo n) s = Idle
 abbrev pub obligationAt : Table → Label → ℕ → Obligation
 obligationAt B l i = cond (inLabel l true i) (obligation (B .entry i) true) (cond (inLabel l false i) (obligation (B .entry i) false) Idle)
 
+-- the role of a restriction; it is asked of restrictions alone
 abbrev pub roleOf : Entry → ℕ
 roleOf (Plain Nothing) = 0
 roleOf (Plain Everything) = 0
@@ -57,7 +59,7 @@ module _ (H : RoleBox) (B : Table) where
   unfoldable pub tellPropagated : ℕ → Bool → ℕ → ℕ → Label → Label
   tellPropagated r s i j acc = cond (B .propagates i j && H .below r (roleOf (B .entry j))) (put s j acc) acc
 
-  -- the restriction itself is told on, if its role t is transitive, else its propagated ones
+  -- the restriction itself is told on, if its role t is transitive, else its propagated ones whose role is above r
   abbrev pub tellOn : ℕ → Bool → ℕ → ℕ → Label → Label
   tellOn r s i t acc = cond (H .transitive t) (put s i acc) (fold (B .width) (tellPropagated r s i) acc)
 
@@ -73,6 +75,7 @@ module _ (H : RoleBox) (B : Table) where
   tellEntry r s i (Inclusion c d) acc = acc
   tellEntry r s i (Inclusions lo n) acc = acc
 
+  -- the same, if the label holds the signed entry
   abbrev pub tell : Label → ℕ → Bool → ℕ → Label → Label
   tell l r s i acc = cond (inLabel l s i) (tellEntry r s i (B .entry i) acc) acc
 

@@ -28,7 +28,7 @@ propagatesBy H (And a b) p = false
 propagatesBy H (Or a b) p = false
 propagatesBy H (Restriction q s a) p = not (H .transitive s) && (H .transitive p && H .below p s)
 
--- the same restriction by the role p
+-- the same restriction by the role p; only restrictions are propagated
 abbrev pub withRole : ℕ → Concept → Concept
 withRole p Nothing = Nothing
 withRole p Everything = Nothing
@@ -50,17 +50,19 @@ propagatedBy H K i p = cond (propagatesBy H (K .concept i) p) (record { origin =
 unfoldable pub propagatedOf : RoleBox → Book → List Propagated
 propagatedOf H K = gather (K .entries) (λ i. gather (H .count) (propagatedBy H K i))
 
+-- what stands past the end of the list
 abbrev pub nowhere : Propagated
 nowhere = record { origin = 0; role = 0 }
 
--- the entry of *book* is after the rules, which are after the concepts and the propagated restrictions
+-- where the rules start: after the concepts and the propagated restrictions
 abbrev pub plainOf : RoleBox → Book → ℕ
 plainOf H K = K .entries + length (propagatedOf H K)
 
+-- *book* is after the rules
 abbrev pub bookEntry : RoleBox → Book → ℕ
 bookEntry H K = plainOf H K + K .rules
 
--- and *everywhere* is the last one
+-- *everywhere* is the last one
 abbrev pub everywhereEntry : RoleBox → Book → ℕ
 everywhereEntry H K = bookEntry H K + 1
 
@@ -68,7 +70,7 @@ everywhereEntry H K = bookEntry H K + 1
 abbrev pub widthOf : RoleBox → Book → ℕ
 widthOf H K = bookEntry H K + 2
 
--- the k-th propagated restriction
+-- a propagated restriction as an entry
 abbrev pub propagatedEntry : Book → Propagated → Entry
 propagatedEntry K o = Plain (withRole (o .role) (K .concept (o .origin)))
 

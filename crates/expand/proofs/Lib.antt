@@ -1,0 +1,5 @@
+pub mod Choosing
+pub mod Enumerating
+pub mod Ranges
+pub mod Taking
+pub mod Telling

@@ -1,0 +1,4 @@
+pub mod Lowered
+pub mod Listing
+pub mod Filling
+pub mod Building

@@ -1,0 +1,5 @@
+pub mod Fix
+pub mod Resume
+pub mod Digits
+pub mod Steps
+pub mod Holders

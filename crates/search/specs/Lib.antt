@@ -1,0 +1,2 @@
+pub mod Games
+pub mod Nodes

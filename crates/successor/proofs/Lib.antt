@@ -1,0 +1,4 @@
+pub mod Labels
+pub mod Propagating
+pub mod Skipping
+pub mod Obliging
