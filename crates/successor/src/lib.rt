@@ -19,7 +19,7 @@ use tableau::Label;
 use tableau::Obligation;
 
 // Whether the label holds entry i with the sign.
-pub fn holds(label: Label, sign: bool, i: usize) -> bool
+fn holds(label: Label, sign: bool, i: usize) -> bool
     requires { ⌜ i < 64 ⌝ }
     ensures { λ r. ⌜ r ≡ inLabel label sign i ⌝ }
 {
@@ -31,7 +31,7 @@ pub fn holds(label: Label, sign: bool, i: usize) -> bool
 }
 
 // The label with entry i, so signed, in it too.
-pub fn put(label: Label, sign: bool, i: usize) -> Label
+fn put(label: Label, sign: bool, i: usize) -> Label
     requires { ⌜ i < 64 ⌝ }
     ensures { λ r. ⌜ r ≡ put sign i label ⌝ }
 {
@@ -241,7 +241,7 @@ fn next_member(set: u64, start: usize) -> Option<usize>
 
 // The seed of a successor by r of a node with the label, for an obligation to the part a with the sign.
 // Only those entries of the label are asked whose role is above r: the others tell nothing.
-pub fn seed(plan: &Plan, label: Label, r: usize, sign: bool, a: usize) -> Label
+fn seed(plan: &Plan, label: Label, r: usize, sign: bool, a: usize) -> Label
     requires successor { ⌜ r < 64 ⌝ }
     requires part { ⌜ a < 64 ⌝ }
     ensures { λ l. ⌜ l ≡ seedOf (boxIn (now (plan .entry))) (tableIn (now (plan .entry))) label r sign a ⌝ }

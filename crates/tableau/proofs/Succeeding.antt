@@ -90,7 +90,7 @@ module _ (H : RoleBox) (K : Book) (P : Opens H K) where
         let c = K .rule k .premise in
         let d = K .rule k .conclusion in
         let says : means uncut (Inclusion c d) meant x ≡ true =
-              ap (λ e. means uncut e meant x) (sym (rule-at H K k m)) ∙ sym (means-it i x) ∙ true-of x i true l (omega arith) tt (rule-in x k l m) in
+        ap (λ e. means uncut e meant x) (sym (rule-at H K k m)) ∙ sym (means-it i x) ∙ true-of x i true l (omega arith) tt (rule-in x k l m) in
         found-concept d x (P .sound .conclusions-in k m)
         ∙ implied (meant c x) (meant d x) says (sym (found-concept c x (P .sound .premises-in k m)) ∙ h)
 
