@@ -1,4 +1,5 @@
 // Prints the listing of the book on standard input.
+#![tactic(auto)]
 use listing::listing;
 use std::io;
 use std::io::{Read, Write};

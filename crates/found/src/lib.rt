@@ -1,4 +1,5 @@
 // The world that a search has found, over the nodes that it leaves.
+#![tactic(auto)]
 ghost use Rattle.std.specs.Prelude.{◌≡◌, IfOk, slice_index, slice_index_or};
 ghost use Rattle.denial.specs.Denials.{answer, denial_report};
 ghost use Rattle.meaning.specs.Agreement.{Agree};

@@ -1,4 +1,5 @@
 // The lines of a script, as calls.
+#![tactic(auto)]
 
 use questions::{Base, Source};
 

@@ -1,4 +1,5 @@
 // The call for hosts that are not written in Rattle: a book as bytes and two of its entries, answered by one number.
+#![tactic(auto)]
 ghost use Rattle.std.specs.Prelude.{◌≡◌};
 ghost use Rattle.denial.specs.Denials.{granted};
 ghost use Rattle.book.specs.Sections.{Sections, says};

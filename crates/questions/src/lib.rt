@@ -1,4 +1,5 @@
 // What a script asks of a book and of the world on a sheet.
+#![tactic(auto)]
 ghost use Rattle.std.specs.Prelude.{◌≡◌, ◌&&◌, nat_lt};
 ghost use Rattle.denial.specs.Denials.{answer, and_then, record_report, denial_report};
 ghost use Rattle.meaning.specs.Universal.{universal_size, universal_under, universal_passing};

@@ -1,6 +1,7 @@
 // The register: it gives the entries of a book class numbers, so that two entries have one number exactly when no finite
 // world that keeps the book holds them apart; says whether one class is within another; and shows a world that holds two
 // apart. It works in nodes and words that it is lent.
+#![tactic(auto)]
 ghost use Rattle.std.specs.Prelude.{◌≡◌, ℕ, ◌+◌, ◌<◌, ◌≤◌, length, slice_index};
 
 use plan::Plan;

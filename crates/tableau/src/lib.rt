@@ -1,5 +1,6 @@
 // The search for a world, as a value, and the theorems about it. There is no code here beyond the types that the
 // definitions share with the code of the search, and the functions that carry the theorems.
+#![tactic(auto)]
 ghost use Rattle.tableau.specs.Examples.{WorkedExamples};
 ghost use Rattle.tableau.specs.Promises.{FailureIsRight, SuccessIsRight, RoomSuffices, StandingLabelsDiffer, EdgesAreThoseChosen, SearchDecides};
 

@@ -1,4 +1,5 @@
 // Tests of what the library crates answer together.
+#![tactic(auto)]
 
 #[cfg(test)]
 mod tests {

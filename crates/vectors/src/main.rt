@@ -1,4 +1,5 @@
 // Runs the scripts of test vectors in `stdin`; what it writes must be `stdout`.
+#![tactic(auto)]
 use std::io;
 
 fn main(rt: HostRuntime) -> io::Result<()> {

@@ -1,5 +1,7 @@
 // A 64-bit word as a set of the numbers 0 to 63: k is in the set where bit k is 1.
 // Every contract speaks through the one definition of membership, `has`; a word is determined by its members.
+#![tactic(auto)]
+
 ghost use Rattle.std.specs.Prelude.{◌≡◌, ℕ, ◌-◌, ◌^◌, ◌<◌, true, false, not, ◌&&◌, ◌||◌, Decides, ◌==◌, bit_and, bit_or, nat_lt};
 ghost use Rattle.words.specs.Sets.{has, Within, Disjoint, Determined, Comprehension};
 
