@@ -2,7 +2,7 @@
 use Rattle.std.proofs.Common.{◌≡◌, ℕ, zero, suc, ◌+◌, ◌*◌, ◌/◌, ◌%◌, ◌<◌, ◌≤◌, Bool, true, false, cond, not, ◌&&◌, eqb, ltb, ◌⊎◌, List, length, get_or, is_some, sym, refl, ap, ◌∙◌, subst, inl, inr, ⊎_elim, arith}
 use Rattle.std.proofs.lemmas.List.{get_or_past, length-take-le}
 use Rattle.std.proofs.lemmas.Bool.Decides.{nat_tests}
-use Rattle.std.proofs.lemmas.Bool.{and_parts, and_from, not-true, not_false, ltb-true, eqb-true, eq-eqb, cases_lt, cases_order, both_ways}
+use Rattle.std.proofs.lemmas.Bool.{and_parts, and_from, not-true, not-false, ltb-true, eqb-true, eq-eqb, cases_lt, cases_order, both_ways}
 use Rattle.meaning.specs.Bounded.{any, first}
 use Rattle.meaning.specs.Worlds.{Lower}
 use Rattle.meaning.specs.declared.Concept.{Concept}
@@ -108,7 +108,7 @@ module _ (roles pairs concepts rules : List ℕ) (G : Good roles pairs concepts 
   -- the record of an entry fits
   fits : (i : ℕ) → i < length concepts / 4
       → fitting (length roles) i (named concepts i (get_or concepts (4 * i + 1) 0)) (get_or concepts (4 * i) 0) (get_or concepts (4 * i + 1) 0) (get_or concepts (4 * i + 2) 0) ≡ true
-  fits i l = (and_parts _ _ (not_false _ (G.concepts_good i l))).0
+  fits i l = (and_parts _ _ (not-false _ (G.concepts_good i l))).0
 
   lower : length concepts % 4 ≡ 0 → (i : ℕ) → Lower i (concept_at concepts i)
   unfolding decode
@@ -141,7 +141,7 @@ module _ (roles pairs concepts rules : List ℕ) (G : Good roles pairs concepts 
   -- each byte of the pair section is a role of the book
   pub pairs_in : length pairs % 2 ≡ 0 → (k : ℕ) → k < length pairs → get_or pairs k 0 < length roles
   pairs_in whole k l =
-      let h = and_parts _ _ (not_false _ (G.pairs_good (k / 2) (omega arith))) in
+      let h = and_parts _ _ (not-false _ (G.pairs_good (k / 2) (omega arith))) in
       ⊎_elim
       (λ (even : 2 * (k / 2) ≡ k). subst (λ j. get_or pairs j 0 < length roles) even (ltb-true _ _ h.0))
       (λ (odd : 2 * (k / 2) + 1 ≡ k). subst (λ j. get_or pairs j 0 < length roles) odd (ltb-true _ _ h.1))
@@ -158,8 +158,8 @@ module _ (roles pairs concepts rules : List ℕ) (G : Good roles pairs concepts 
     roles_in = λ i r a q l e. fitting_role (length roles) i _ (get_or concepts (4 * i + 1) 0) (get_or concepts (4 * i + 2) 0) q r a (get_or concepts (4 * i) 0) (fits i l) e;
     names_in = λ i m l e. (name_at i m l e).3;
     names_once = names_once;
-    premises_in = λ k l. ltb-true _ _ (and_parts _ _ (not_false _ (G.rules_good k l))).0;
-    conclusions_in = λ k l. ltb-true _ _ (and_parts _ _ (not_false _ (G.rules_good k l))).1;
+    premises_in = λ k l. ltb-true _ _ (and_parts _ _ (not-false _ (G.rules_good k l))).0;
+    conclusions_in = λ k l. ltb-true _ _ (and_parts _ _ (not-false _ (G.rules_good k l))).1;
   }
 
 -- what the code's book holds is sound

@@ -1,5 +1,6 @@
 // A book: bytes in four sections (roles, pairs, concepts, rules) with a trailer at the end.
 #![tactic(auto)]
+
 ghost use Rattle.std.specs.Prelude.{◌≡◌, ◌*◌, ◌<◌, ◌≤◌, true, length, take};
 ghost use Rattle.book.specs.Records.{faultless};
 

@@ -1,6 +1,6 @@
 -- What a signed restriction says of the successors of an individual.
 use Rattle.std.proofs.Common.{◌≡◌, ℕ, zero, suc, ◌<◌, Bool, true, false, not, ◌&&◌, ◌||◌, refl, ⊎_elim, arith}
-use Rattle.std.proofs.lemmas.Bool.{cases_Bool, and_parts, and_from, or_parts, both_ways, not-true, not_false, and_cases, or_from, not_from_true, not_from_false}
+use Rattle.std.proofs.lemmas.Bool.{cases_Bool, and_parts, and_from, or_parts, both_ways, not-true, not-false, and_cases, or_from, not_from_true, not_from_false}
 use Rattle.meaning.specs.Bounded.{all}
 use Rattle.meaning.specs.Worlds.{Interpretation, denotes}
 use Rattle.meaning.specs.declared.Concept.TheVariants.{Restriction}
@@ -36,12 +36,12 @@ module _ (W : Interpretation) (r a x : ℕ) (h : ℕ → ℕ → Bool) where
   obliged Forall false o e =
       let k = all_fails W.size (λ y. not (W.joins r x y) || h a y) e in
       let p = or_parts (not (W.joins r x k.0)) (h a k.0) k.2 in
-      (k.0, k.1, not_false (W.joins r x k.0) p.0, p.1)
+      (k.0, k.1, not-false (W.joins r x k.0) p.0, p.1)
   obliged NoneOf true o e = absurd (both_ways false refl o)
   obliged NoneOf false o e =
       let k = all_fails W.size (λ y. not (W.joins r x y) || not (h a y)) e in
       let p = or_parts (not (W.joins r x k.0)) (not (h a k.0)) k.2 in
-      (k.0, k.1, not_false (W.joins r x k.0) p.0, not_false (h a k.0) p.1)
+      (k.0, k.1, not-false (W.joins r x k.0) p.0, not-false (h a k.0) p.1)
 
   -- a restriction that holds says what every successor is
   pub restricted : (q : Quantifier) (s : Bool) → obliges q s ≡ false → denotes W (Restriction q r a) h x ≡ s

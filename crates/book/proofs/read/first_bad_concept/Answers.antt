@@ -4,12 +4,12 @@ use Rattle.std.proofs.lemmas.Bool.{ne_eqb, and_left, and_right}
 use Rattle.book.specs.Records.{bad_concept}
 use Rattle.book.proofs.read.first_bad_concept.Goals as goal
 
-pub returns-then-not-operands-fit : goal.returns-then-not-operands-fit
-returns-then-not-operands-fit c =
+pub returns-then-not-operands_fit : goal.returns-then-not-operands_fit
+returns-then-not-operands_fit c =
     let cs = c.args.concepts.now in
     let k = c.loop-k.k in
     record {
-      value = sym (first_some (length cs / 4) k (bad_concept c.args.roles cs) (omega arith) c.loop-k.invariant (ap not (and_left _ _ (sym c.operands-fit.ensures ∙ c.if-not-operands-fit.true))));
+      value = sym (first_some (length cs / 4) k (bad_concept c.args.roles cs) (omega arith) c.loop-k.invariant (ap not (and_left _ _ (sym c.operands_fit.ensures ∙ c.if-not-operands_fit.true))));
       inside = omega arith;
     }
 

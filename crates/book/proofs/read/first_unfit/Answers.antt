@@ -3,12 +3,12 @@ use Rattle.meaning.proofs.Firsts.{first_some, first_none}
 use Rattle.book.specs.Records.{unfit}
 use Rattle.book.proofs.read.first_unfit.Goals as goal
 
-pub returns-then-not-both-below : goal.returns-then-not-both-below
-returns-then-not-both-below c =
+pub returns-then-not-both_below : goal.returns-then-not-both_below
+returns-then-not-both_below c =
     let rs = c.args.records.now in
     let k = c.loop-k.k in
     record {
-      value = sym (first_some (length rs / 2) k (unfit c.args.n rs) (omega arith) c.loop-k.invariant (ap not (sym c.both-below.ensures ∙ c.if-not-both-below.true)));
+      value = sym (first_some (length rs / 2) k (unfit c.args.n rs) (omega arith) c.loop-k.invariant (ap not (sym c.both_below.ensures ∙ c.if-not-both_below.true)));
       inside = omega arith;
     }
 

@@ -7,56 +7,56 @@ use Rattle.book.proofs.Checking.{reading_as, sections_are}
 use Rattle.book.specs.Reading.{reading, checking, sections_of}
 use Rattle.book.proofs.read.read.Goals as goal
 
-pub returns-in-err-layout : goal.returns-in-err-layout
+pub returns-in_err-layout : goal.returns-in_err-layout
 unfolding reading
-returns-in-err-layout c =
+returns-in_err-layout c =
     let bs = c.args.bytes.now in
-    let p = err_from_is_err_and c.from-residual.result c.from-residual.ensures.1 in
+    let p = err_from_is_err_and c.from_residual.result c.from_residual.ensures.1 in
     record {
       value =
           ap (answer view record_report) p.1 ∙ ap (λ d. denied (record_report d)) p.2
-          ∙ ap (λ a. and_then a (λ l. checking l (sections_of bs l))) c.in-err-layout.ensures.value;
-      sound = IfOk-from_err c.from-residual.result _ c.from-residual.ensures.0;
+          ∙ ap (λ a. and_then a (λ l. checking l (sections_of bs l))) c.in_err-layout.ensures.value;
+      sound = IfOk-from_err c.from_residual.result _ c.from_residual.ensures.0;
     }
 
-pub check-records-requires : goal.check-records-requires
-check-records-requires c = record {
-  size = (length c.args.bytes.now, c.in-ok-layout.ensures.laid);
+pub check_records-requires : goal.check_records-requires
+check_records-requires c = record {
+  size = (length c.args.bytes.now, c.in_ok-layout.ensures.laid);
   roles_are = c.part-roles.ensures.len;
   pairs_are = c.part-pairs.ensures.len;
   concepts_are = c.part-concepts.ensures.len;
   rules_are = c.part-rules.ensures.len;
 }
 
-pub returns-in-err-check-records : goal.returns-in-err-check-records
-returns-in-err-check-records c =
+pub returns-in_err-check_records : goal.returns-in_err-check_records
+returns-in_err-check_records c =
     let bs = c.args.bytes.now in
-    let l = c.in-ok-layout.layout in
+    let l = c.in_ok-layout.layout in
     let a = c.part-roles.result.now in
     let b = c.part-pairs.result.now in
     let d = c.part-concepts.result.now in
     let e = c.part-rules.result.now in
-    let p = err_from_is_err_and c.from-residual-in-err-check-records.result c.from-residual-in-err-check-records.ensures.1 in
+    let p = err_from_is_err_and c.from_residual-in_err-check_records.result c.from_residual-in_err-check_records.ensures.1 in
     record {
       value =
-          ap (answer view record_report) p.1 ∙ ap (λ x. denied (record_report x)) p.2 ∙ c.in-err-check-records.ensures.value
-          ∙ reading_as bs l (sections a b d e) c.in-ok-layout.ensures.value
+          ap (answer view record_report) p.1 ∙ ap (λ x. denied (record_report x)) p.2 ∙ c.in_err-check_records.ensures.value
+          ∙ reading_as bs l (sections a b d e) c.in_ok-layout.ensures.value
           (sections_are bs l a b d e c.part-roles.ensures.value c.part-pairs.ensures.value c.part-concepts.ensures.value c.part-rules.ensures.value);
-      sound = IfOk-from_err c.from-residual-in-err-check-records.result _ c.from-residual-in-err-check-records.ensures.0;
+      sound = IfOk-from_err c.from_residual-in_err-check_records.result _ c.from_residual-in_err-check_records.ensures.0;
     }
 
 pub returns : goal.returns
 returns c =
     let bs = c.args.bytes.now in
-    let l = c.in-ok-layout.layout in
+    let l = c.in_ok-layout.layout in
     let a = c.part-roles.result.now in
     let b = c.part-pairs.result.now in
     let d = c.part-concepts.result.now in
     let e = c.part-rules.result.now in
     record {
       value =
-          ap granted c.stored.ensures ∙ c.in-ok-check-records.ensures.value
-          ∙ reading_as bs l (sections a b d e) c.in-ok-layout.ensures.value
+          ap granted c.stored.ensures ∙ c.in_ok-check_records.ensures.value
+          ∙ reading_as bs l (sections a b d e) c.in_ok-layout.ensures.value
           (sections_are bs l a b d e c.part-roles.ensures.value c.part-pairs.ensures.value c.part-concepts.ensures.value c.part-rules.ensures.value);
       sound = book_sound c.stored.result;
     }

@@ -10,47 +10,20 @@ front all bytes rest n e l = ap (λ xs. take n xs) e ∙ take_at bytes rest n l
 faultless-same : {a b c d p q r s : List ℕ} → a ≡ p → b ≡ q → c ≡ r → d ≡ s → faultless p q r s ≡ true → faultless a b c d ≡ true
 faultless-same e f g h k = rw (e, f, g, h) k
 
-pub invariant-of-result : goal.invariant-of-result
-invariant-of-result c =
+pub invariant_of-result : goal.invariant_of-result
+invariant_of-result c =
     let w = c.requires.whole in
     let l = w.size.1 in
-    let a = front _ c.args.roles.now _ c.args.layout.roles.count c.put-front.ensures w.roles_are in
-    let b = front _ c.args.pairs.now _ (2 * c.args.layout.pairs.count) c.put-front-2.ensures w.pairs_are in
-    let d = front _ c.args.concepts.now _ (4 * c.args.layout.concepts.count) c.put-front-3.ensures w.concepts_are in
-    let e = front _ c.args.rules.now _ (2 * c.args.layout.rules.count) c.put-front-4.ensures w.rules_are in (
-      search rules,
-      (
-        search rules,
-        (
-          search rules,
-          (
-            search rules,
-            (
-              l.few_roles,
-              (
-                l.few_pairs,
-                (
-                  omega (arith, l.some_concepts),
-                  (
-                    l.few_concepts,
-                    (
-                      l.few_rules,
-                      (faultless-same a b d e c.requires.good, tt),
-                    ),
-                  ),
-                ),
-              ),
-            ),
-          ),
-        ),
-      ),
-    )
+    let a = front _ c.args.roles.now _ c.args.layout.roles.count c.put_front.ensures w.roles_are in
+    let b = front _ c.args.pairs.now _ (2 * c.args.layout.pairs.count) c.put_front-2.ensures w.pairs_are in
+    let d = front _ c.args.concepts.now _ (4 * c.args.layout.concepts.count) c.put_front-3.ensures w.concepts_are in
+    let e = front _ c.args.rules.now _ (2 * c.args.layout.rules.count) c.put_front-4.ensures w.rules_are in record { roles_long = search rules; pairs_long = search rules; concepts_long = search rules; rules_long = search rules; few_roles = l.few_roles; few_pairs = l.few_pairs; some_entries = omega (arith, l.some_concepts); few_entries = l.few_concepts; few_rules = l.few_rules; good = faultless-same a b d e c.requires.good }
 
 pub returns : goal.returns
 returns c =
     let w = c.requires.whole in
-    let a = front _ c.args.roles.now _ c.args.layout.roles.count c.put-front.ensures w.roles_are in
-    let b = front _ c.args.pairs.now _ (2 * c.args.layout.pairs.count) c.put-front-2.ensures w.pairs_are in
-    let d = front _ c.args.concepts.now _ (4 * c.args.layout.concepts.count) c.put-front-3.ensures w.concepts_are in
-    let e = front _ c.args.rules.now _ (2 * c.args.layout.rules.count) c.put-front-4.ensures w.rules_are in
+    let a = front _ c.args.roles.now _ c.args.layout.roles.count c.put_front.ensures w.roles_are in
+    let b = front _ c.args.pairs.now _ (2 * c.args.layout.pairs.count) c.put_front-2.ensures w.pairs_are in
+    let d = front _ c.args.concepts.now _ (4 * c.args.layout.concepts.count) c.put_front-3.ensures w.concepts_are in
+    let e = front _ c.args.rules.now _ (2 * c.args.layout.rules.count) c.put_front-4.ensures w.rules_are in
     cc

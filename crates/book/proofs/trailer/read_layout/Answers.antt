@@ -10,14 +10,14 @@ returns-then-len-lt-TRAILER c = record { value = sym (laying_short c.args.bytes.
 pub returns-then-len-gt-LONGEST : goal.returns-then-len-gt-LONGEST
 returns-then-len-gt-LONGEST c = record { value = sym (laying_long c.args.bytes.now (omega arith)); laid = tt }
 
-pub overflow-mul-result : goal.overflow-mul-result
-overflow-mul-result c = omega (arith, c.in-Some.ensures.inside)
+pub overflow_mul-result : goal.overflow_mul-result
+overflow_mul-result c = omega (arith, c.in-Some.ensures.inside)
 
-pub overflow-add-result : goal.overflow-add-result
-overflow-add-result c = omega (arith, c.in-Some.ensures.inside)
+pub overflow_add-result : goal.overflow_add-result
+overflow_add-result c = omega (arith, c.in-Some.ensures.inside)
 
-pub overflow-add-result-in-Some : goal.overflow-add-result-in-Some
-overflow-add-result-in-Some c = omega (arith, c.in-Some.ensures.inside)
+pub overflow_add-result-in-Some : goal.overflow_add-result-in-Some
+overflow_add-result-in-Some c = omega (arith, c.in-Some.ensures.inside)
 
 pub returns-in-Some : goal.returns-in-Some
 returns-in-Some c = record {
@@ -25,25 +25,25 @@ returns-in-Some c = record {
   laid = tt;
 }
 
-pub overflow-mul-result-in-Some-first-bad-place : goal.overflow-mul-result-in-Some-first-bad-place
-overflow-mul-result-in-Some-first-bad-place c = omega (arith, c.in-Some-first-bad-place.ensures.inside)
+pub overflow_mul-result-in-Some-first_bad_place : goal.overflow_mul-result-in-Some-first_bad_place
+overflow_mul-result-in-Some-first_bad_place c = omega (arith, c.in-Some-first_bad_place.ensures.inside)
 
-pub overflow-add-result-in-Some-first-bad-place : goal.overflow-add-result-in-Some-first-bad-place
-overflow-add-result-in-Some-first-bad-place c = omega (arith, c.in-Some-first-bad-place.ensures.inside)
+pub overflow_add-result-in-Some-first_bad_place : goal.overflow_add-result-in-Some-first_bad_place
+overflow_add-result-in-Some-first_bad_place c = omega (arith, c.in-Some-first_bad_place.ensures.inside)
 
-pub returns-in-Some-first-bad-place : goal.returns-in-Some-first-bad-place
-returns-in-Some-first-bad-place c = record {
-  value = sym (laying_place c.args.bytes.now (omega arith) (omega arith) c.in-default.ensures.value c.in-Some-first-bad-place.j c.in-Some-first-bad-place.ensures.value);
+pub returns-in-Some-first_bad_place : goal.returns-in-Some-first_bad_place
+returns-in-Some-first_bad_place c = record {
+  value = sym (laying_place c.args.bytes.now (omega arith) (omega arith) c.in_default.ensures.value c.in-Some-first_bad_place.j c.in-Some-first_bad_place.ensures.value);
   laid = tt;
 }
 
 pub returns : goal.returns
 returns c =
     let bs = c.args.bytes.now in
-    let counts = c.in-default.ensures.value in
-    let places = c.in-default-first-bad-place.ensures.value in
-    let is = layout_is bs c.section-at-roles.result c.section-at-pairs.result c.section-at-concepts.result c.section-at-rules.result
-    c.section-at-roles.ensures.value c.section-at-pairs.ensures.value c.section-at-concepts.ensures.value c.section-at-rules.ensures.value in
+    let counts = c.in_default.ensures.value in
+    let places = c.in_default-first_bad_place.ensures.value in
+    let is = layout_is bs c.section_at-roles.result c.section_at-pairs.result c.section_at-concepts.result c.section_at-rules.result
+    c.section_at-roles.ensures.value c.section_at-pairs.ensures.value c.section_at-concepts.ensures.value c.section_at-rules.ensures.value in
     record {
       value = ap granted is ∙ sym (laying_good bs (omega arith) (omega arith) counts places);
       laid = subst (λ l. Laid (length bs) l) (sym is) (laid bs (omega arith) (omega arith) counts places);
