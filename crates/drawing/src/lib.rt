@@ -16,9 +16,9 @@ const ROWS: usize = 65;
 // Writes the world on the words, with so many roles, and answers how many individuals it has. Refused where the words are
 // too few: then they stay as they were. Words past those needed stay as they were.
 pub fn draw<W: World>(world: &W, roles: u8, words: &mut [u64]) -> Result<usize, Denial>
-    ensures value { answer (λ m. m) denial_report result ≡ drawing roles (interpretation world.now) (length words.old) }
-    ensures words { words.new ≡ drawn_on roles (interpretation world.now) words.old }
-    ensures right { IfOk result (λ m. Drawn roles (interpretation world.now) words.new) }
+    ensures value { answer (λ m. m) denial_report result ≡ drawing roles (W.World.interpretation world.now) (length words.old) }
+    ensures words { words.new ≡ drawn_on roles (W.World.interpretation world.now) words.old }
+    ensures right { IfOk result (λ m. Drawn roles (W.World.interpretation world.now) words.new) }
 {
     let m = world.individuals();
     let roles = roles as usize;

@@ -14,7 +14,7 @@ use meaning::{Concept, Quantifier, World};
 
 // The set of the individuals in the entry; refused where the book has no such entry.
 pub fn judge<W: World>(world: &W, book: &Book, entry: usize) -> Result<u64, Denial>
-    ensures { answer (λ w. w) denial_report result ≡ judged (interpretation world.now) (says (view book.now)) entry }
+    ensures { answer (λ w. w) denial_report result ≡ judged (W.World.interpretation world.now) (says (view book.now)) entry }
 {
     if entry >= book.entry_count() {
         return Err(Denial::Entry(entry));
@@ -26,7 +26,7 @@ pub fn judge<W: World>(world: &W, book: &Book, entry: usize) -> Result<u64, Deni
 // The sets of the first n entries.
 pub(crate) fn extensions<W: World>(world: &W, book: &Book, n: usize) -> [u64; 64]
     requires { n ≤ (says (view book.now)).entries }
-    ensures { (i : ℕ) → i < n → slice_index result i ≡ set_of (interpretation world.now).size (holds (interpretation world.now) (says (view book.now)).concept i) }
+    ensures { (i : ℕ) → i < n → slice_index result i ≡ set_of (W.World.interpretation world.now).size (holds (W.World.interpretation world.now) (says (view book.now)).concept i) }
 {
     let mut sets = [0u64; 64];
     for i in 0..n {
@@ -38,8 +38,8 @@ pub(crate) fn extensions<W: World>(world: &W, book: &Book, n: usize) -> [u64; 64
 
 // The set of a concept, from the sets of its parts.
 fn extension<W: World>(world: &W, concept: Concept, sets: &[u64; 64]) -> u64
-    requires { Lower 64 concept × Asked concept × Inside (interpretation world.now).size sets.now }
-    ensures { result ≡ set_of (interpretation world.now).size (denotes (interpretation world.now) concept (λ a. has (slice_index sets.now a))) }
+    requires { Lower 64 concept × Asked concept × Inside (W.World.interpretation world.now).size sets.now }
+    ensures { result ≡ set_of (W.World.interpretation world.now).size (denotes (W.World.interpretation world.now) concept (λ a. has (slice_index sets.now a))) }
 {
     let all = words::below(world.individuals());
     match concept {
@@ -56,7 +56,7 @@ fn extension<W: World>(world: &W, concept: Concept, sets: &[u64; 64]) -> u64
 // The individuals that bear the name n.
 pub fn bearers<W: World>(world: &W, n: usize) -> u64
     requires { n < 64 }
-    ensures { result ≡ set_of (interpretation world.now).size (λ x. (interpretation world.now).bears x n) }
+    ensures { result ≡ set_of (W.World.interpretation world.now).size (λ x. (W.World.interpretation world.now).bears x n) }
 {
     let m = world.individuals();
     let mut set = 0;
@@ -68,8 +68,8 @@ pub fn bearers<W: World>(world: &W, n: usize) -> u64
 
 // The individuals to which the role r joins x.
 pub fn successors<W: World>(world: &W, r: usize, x: usize) -> u64
-    requires { x < (interpretation world.now).size }
-    ensures { result ≡ set_of (interpretation world.now).size (λ y. (interpretation world.now).joins r x y) }
+    requires { x < (W.World.interpretation world.now).size }
+    ensures { result ≡ set_of (W.World.interpretation world.now).size (λ y. (W.World.interpretation world.now).joins r x y) }
 {
     let m = world.individuals();
     let mut set = 0;
@@ -81,7 +81,7 @@ pub fn successors<W: World>(world: &W, r: usize, x: usize) -> u64
 
 // The individuals in the restriction by the role r whose part, given as a set, stands for part 0.
 fn restricted<W: World>(world: &W, q: Quantifier, r: usize, part: u64) -> u64
-    ensures { result ≡ set_of (interpretation world.now).size (denotes (interpretation world.now) (Restriction q r 0) (λ a. has part)) }
+    ensures { result ≡ set_of (W.World.interpretation world.now).size (denotes (W.World.interpretation world.now) (Restriction q r 0) (λ a. has part)) }
 {
     let m = world.individuals();
     let mut set = 0;
@@ -93,8 +93,8 @@ fn restricted<W: World>(world: &W, q: Quantifier, r: usize, part: u64) -> u64
 
 // Whether x is in that restriction.
 fn meets<W: World>(world: &W, q: Quantifier, r: usize, part: u64, x: usize) -> bool
-    requires { x < (interpretation world.now).size }
-    ensures { result ≡ denotes (interpretation world.now) (Restriction q r 0) (λ a. has part) x }
+    requires { x < (W.World.interpretation world.now).size }
+    ensures { result ≡ denotes (W.World.interpretation world.now) (Restriction q r 0) (λ a. has part) x }
 {
     let row = successors(world, r, x);
     match q {

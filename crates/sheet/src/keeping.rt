@@ -55,7 +55,7 @@ fn keeps_transitivity<W: World, H: Hierarchy>(world: &W, hierarchy: &H) -> bool
 }
 
 fn keeps_rules<W: World>(world: &W, book: &Book) -> bool
-    ensures { Decides result (KeepsRules (says (view book.now)) (interpretation world.now)) }
+    ensures { Decides result (KeepsRules (says (view book.now)) (W.World.interpretation world.now)) }
 {
     let sets = extensions(world, book, book.entry_count());
     let n = book.rule_count();
@@ -72,7 +72,7 @@ fn keeps_rules<W: World>(world: &W, book: &Book) -> bool
 
 // Whether every pair of r is a pair of s.
 fn includes<W: World>(world: &W, r: usize, s: usize) -> bool
-    ensures { Decides result (Includes (interpretation world.now) r s) }
+    ensures { Decides result (Includes (W.World.interpretation world.now) r s) }
 {
     let m = world.individuals();
     for x in 0..m {
@@ -85,7 +85,7 @@ fn includes<W: World>(world: &W, r: usize, s: usize) -> bool
 
 // Whether r joins x to z where it joins x to y and y to z.
 fn passes<W: World>(world: &W, r: usize) -> bool
-    ensures { Decides result (Passes (interpretation world.now) r) }
+    ensures { Decides result (Passes (W.World.interpretation world.now) r) }
 {
     let m = world.individuals();
     for x in 0..m {
@@ -100,8 +100,8 @@ fn passes<W: World>(world: &W, r: usize) -> bool
 
 // Whether each individual to which r joins x is one to which s joins z.
 fn row_within<W: World>(world: &W, r: usize, x: usize, s: usize, z: usize) -> bool
-    requires { (x < (interpretation world.now).size) × (z < (interpretation world.now).size) }
-    ensures { Decides result (RowWithin (interpretation world.now) r x s z) }
+    requires { (x < (W.World.interpretation world.now).size) × (z < (W.World.interpretation world.now).size) }
+    ensures { Decides result (RowWithin (W.World.interpretation world.now) r x s z) }
 {
     words::subset(successors(world, r, x), successors(world, s, z))
 }

@@ -7,7 +7,7 @@ pub returns : goal.returns
 returns c =
     let l = c.args.label in
     let f : l.plus < 2 ^ 64 = omega (arith, c.well-formed) in
-    run_is c.args.lo c.args.n c.union.result l f c.requires c.union.type-inv
+    run_is c.args.lo c.args.n c.union.result l f c.requires c.union.type_inv
     (λ j. c.union.ensures.members j
     ∙ ap (λ b. has l.plus j || b)
     (c.difference-run.ensures j ∙ ap₂ (λ a b. a && not b) (c.below.ensures.members j) (c.below-2.ensures.members j)))

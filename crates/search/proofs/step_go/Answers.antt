@@ -11,26 +11,26 @@ returns-in-None g c = (
   c.requires.blanks,
 )
 
-pub returns-in-None-next-seed : goal.returns-in-None-next-seed
-returns-in-None-next-seed g c =
+pub returns-in-None-next_seed : goal.returns-in-None-next_seed
+returns-in-None-next_seed g c =
     let s = c.args.strategy.now in
     let e = c.in-Some.ensures in
     went_done (g.S.Strategy.game s) (g.S.Strategy.few s) c.args.nodes.now c.in-Some.p c.args.m e.0 c.requires.within e.1 e.2 c.requires.blanks
-    c.in-None-next-seed.ensures
+    c.in-None-next_seed.ensures
 
 pub returns-in-Some-lowest : goal.returns-in-Some-lowest
 returns-in-Some-lowest g c =
     let s = c.args.strategy.now in
     let e = c.in-Some.ensures in
     went_on (g.S.Strategy.game s) (g.S.Strategy.few s) c.args.nodes.now c.in-Some.p c.args.m e.0 c.requires.within e.1 e.2 c.requires.blanks
-    c.in-Some-next-seed.seed c.in-Some-next-seed.next c.in-Some-next-seed.ensures (simp sub-zero at c.in-Some-lowest.ensures.0)
+    c.in-Some-next_seed.seed c.in-Some-next_seed.next c.in-Some-next_seed.ensures (simp sub-zero at c.in-Some-lowest.ensures.0)
 
 pub returns-then-m-nodes : goal.returns-then-m-nodes
 returns-then-m-nodes g c =
     let s = c.args.strategy.now in
     let e = c.in-Some.ensures in
     refuse (g.S.Strategy.game s) (length c.args.nodes.now) c.args.nodes.now c.in-Some.p c.args.m e.0 c.requires.within e.1 e.2
-    c.in-Some-next-seed.seed c.in-Some-next-seed.next c.in-Some-next-seed.ensures (simp sub-zero at c.in-None-lowest.ensures)
+    c.in-Some-next_seed.seed c.in-Some-next_seed.next c.in-Some-next_seed.ensures (simp sub-zero at c.in-None-lowest.ensures)
     (omega (arith, simp length-set at c.if-m-nodes.true))
 
 pub returns-else-m-nodes : goal.returns-else-m-nodes
@@ -38,5 +38,5 @@ returns-else-m-nodes g c =
     let s = c.args.strategy.now in
     let e = c.in-Some.ensures in
     went_down (g.S.Strategy.game s) (g.S.Strategy.few s) c.args.nodes.now c.in-Some.p c.args.m e.0 c.requires.within e.1 e.2 c.requires.blanks
-    c.in-Some-next-seed.seed c.in-Some-next-seed.next c.in-Some-next-seed.ensures (simp sub-zero at c.in-None-lowest.ensures)
+    c.in-Some-next_seed.seed c.in-Some-next_seed.next c.in-Some-next_seed.ensures (simp sub-zero at c.in-None-lowest.ensures)
     (omega (arith, simp length-set at c.if-m-nodes.false))

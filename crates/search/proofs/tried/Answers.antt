@@ -13,6 +13,6 @@ returns-in-Failed g c = record {
 pub returns-in-Stands : goal.returns-in-Stands
 returns-in-Stands g c = record {
   answer = sym (ap told c.in-Stands.ensures.0);
-  wiped = simp sub-zero (blank_front (length c.args.nodes.now) c.in-Stands.m c.run-in-blank.new.nodes c.wipe-in-Stands.new.nodes
+  wiped = simp sub-zero (blank_front (length c.args.nodes.now) c.in-Stands.m c.run_in_blank.new.nodes c.wipe-in-Stands.new.nodes
       (omega arith) c.in-Stands.ensures.1 c.in-Stands.ensures.2 (simp sub-zero at c.wipe-in-Stands.ensures));
 }

@@ -12,7 +12,7 @@ single-requires c =
 pub returns-in-Some : goal.returns-in-Some
 returns-in-Some c =
     let found = c.in-Some.ensures in
-    holder_some c.args.nodes.now c.args.seed c.requires c.in-Some.y c.single.result found.1 found.2 c.single.type-inv c.single.ensures.members
+    holder_some c.args.nodes.now c.args.seed c.requires c.in-Some.y c.single.result found.1 found.2 c.single.type_inv c.single.ensures.members
 
 pub returns-in-None : goal.returns-in-None
 returns-in-None c = holder_none c.args.nodes.now c.args.seed c.requires c.in-None.ensures

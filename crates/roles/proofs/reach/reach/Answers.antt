@@ -13,14 +13,14 @@ returns-then-more-set c =
 pub rounds-smaller : goal.rounds-smaller
 rounds-smaller c =
     let pairs = c.args.pairs.now in
-    omega (arith, round_above pairs (length pairs / 2) c.rounds.set, c.round-more.ensures, c.if-more-set.false, c.round-more.type-inv)
+    omega (arith, round_above pairs (length pairs / 2) c.rounds.set, c.round-more.ensures, c.if-more-set.false, c.round-more.type_inv)
 
 pub rounds-preserved : goal.rounds-preserved
 rounds-preserved c =
     let pairs = c.args.pairs.now in
     let r = c.args.r in
     let is = c.round-more.ensures in (
-      c.round-more.type-inv,
+      c.round-more.type_inv,
       ap (λ w. has w r) is ∙ round_keeps pairs (length pairs / 2) c.rounds.set r c.rounds.invariant.1,
       λ s e. round_in pairs (Leads pairs r) (leads_step pairs r) (length pairs / 2) c.rounds.set (omega arith) c.rounds.invariant.2 s
           (sym (ap (λ w. has w s) is) ∙ e),

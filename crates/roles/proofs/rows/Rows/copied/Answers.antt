@@ -4,8 +4,8 @@ use Rattle.roles.specs.Rows.{related}
 use Rattle.roles.proofs.Filling.{lawful_like}
 use Rattle.roles.proofs.rows.Rows.copied.Goals as goal
 
-pub invariant-of-result : goal.invariant-of-result
-invariant-of-result g c =
+pub invariant_of-result : goal.invariant_of-result
+invariant_of-result g c =
     let h = c.args.h.now in
     let law = lawful_like (g.H.Order.size h) (related c.rows.result) (g.H.Order.under h) c.rows.ensures (g.H.Order.lawful h) in
-    (omega (arith, law.few, c.count.ensures), (∣ subst (λ n. Lawful n (related c.rows.result)) (sym c.count.ensures) law ∣₁, tt))
+    record { few = omega (arith, law.few, c.count.ensures); law = ∣ subst (λ n. Lawful n (related c.rows.result)) (sym c.count.ensures) law ∣₁; }

@@ -4,10 +4,10 @@ use Rattle.book.proofs.Soundness.{book_sound}
 use Rattle.sheet.proofs.Strays.{first_below}
 use Rattle.sheet.proofs.sheet.Sheet.new.Goals as goal
 
-pub overflow-add-result : goal.overflow-add-result
-overflow-add-result c =
+pub overflow_add-result : goal.overflow_add-result
+overflow_add-result c =
     let l = first_below _ _ _ c.in-Some.ensures in
-    let roles : c.role-count-roles.result ≤ 64 = omega (arith, c.role-count-roles.ensures, (book_sound c.args.book.now).few_roles) in
+    let roles : c.role_count-roles.result ≤ 64 = omega (arith, c.role_count-roles.ensures, (book_sound c.args.book.now).few_roles) in
     let few : get_or c.args.words.now 0 0 ≤ 64 = omega (arith, c.if-words-gt-MOST.false) in
-    let product = mul-le c.role-count-roles.result (get_or c.args.words.now 0 0) 64 64 roles few in
+    let product = mul-le c.role_count-roles.result (get_or c.args.words.now 0 0) 64 64 roles few in
     omega (arith, l, product)
