@@ -66,8 +66,11 @@ fn assembled(
     rows: [u64; 64],
     marks: u64,
 ) -> Plan
-    requires width_value { (width ≡ width_of (box_of base.now) (says (view book.now))) × ((Opens (box_of base.now) (says (view book.now))) × (Lists list.now (propagated_list (box_of base.now) (says (view book.now))))) }
-    requires by_index { (((r s : ℕ) → has (slice_index rows r) s ≡ (with_universal (box_of base.now)).below r s)) × (((r : ℕ) → has marks r ≡ (with_universal (box_of base.now)).transitive r)) }
+    requires width { width ≡ width_of (box_of base.now) (says (view book.now)) }
+    requires opens { Opens (box_of base.now) (says (view book.now)) }
+    requires list { Lists list.now (propagated_list (box_of base.now) (says (view book.now))) }
+    requires relation { (r s : ℕ) → has (slice_index rows r) s ≡ (with_universal (box_of base.now)).below r s }
+    requires transitive { (r : ℕ) → has marks r ≡ (with_universal (box_of base.now)).transitive r }
     ensures planned { Planned (box_of base.now) (says (view book.now)) result }
     ensures fitting { Fitting (box_of base.now) (says (view book.now)) result }
 {

@@ -1,6 +1,7 @@
 // What a search needs of a book and a hierarchy, as plain data worked out once: the working entries, the hierarchy with its
 // universal role as rows, and the sets of entries that make the seed of a successor a few operations on words.
 #![tactic(auto)]
+
 ghost use Rattle.std.specs.Prelude.{◌≡◌, ℕ, ◌<◌, ◌≤◌, true, false, ◌&&◌, length, nat_lt, slice_index};
 ghost use Rattle.words.specs.Sets.{has};
 ghost use Rattle.plan.specs.Plans.{lowered, listed_entry, listed_role, absurd_in};

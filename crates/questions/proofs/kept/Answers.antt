@@ -9,8 +9,8 @@ pub returns-in-Closed : goal.returns-in-Closed
 returns-in-Closed c =
     let s = view c.args.book.now in
     let x = c.closed.result in
-    let w = c.in-ok-world.world in
+    let w = c.in_ok-world.world in
     kept_under (role_box x.count (related x.rows) (has x.marks)) s c.args.words.now w.words.now w.roles c.keeps.result
-    c.in-ok-world.ensures.value c.in-ok-world.ensures.roles c.in-ok-world.ensures.world
+    c.in_ok-world.ensures.value c.in_ok-world.ensures.roles c.in_ok-world.ensures.world
     (rows_same s x.count (related x.rows) (has x.marks) c.closed.ensures.count c.closed.ensures.relation c.closed.ensures.transitive)
     c.keeps.ensures

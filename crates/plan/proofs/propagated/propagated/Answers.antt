@@ -13,4 +13,4 @@ pub returns : goal.returns
 returns c =
     let H = box_of c.args.base.now in
     let K = says (view c.args.book.now) in
-    subst (Lists c.entries.list) (to_all H K c.entries.i (omega (arith, c.entry-count-i-end.ensures, c.entries-test.false, c.entries.auto.i-end))) c.entries.invariant
+    subst (Lists c.entries.list) (to_all H K c.entries.i (omega (arith, c.entry_count-i-end.ensures, c.entries-test.false, c.entries.auto.i-end))) c.entries.invariant

@@ -15,6 +15,6 @@ entries-preserved c =
     let w = c.entries.set in
     let is = c.member.ensures ∙ ap (has c.args.row) c.role.ensures in
     elim c.if-member.branch [
-      | then-member a ↦ set_in i w c.if-member.set p c.entries.invariant (sym is ∙ a.if-member.true) (λ j. ap (λ s. has s j) a.set_is ∙ a.insert-set.ensures.members j)
-      | else-member a ↦ λ j. ap (λ s. has s j) a.set_is ∙ set_out i w p c.entries.invariant (sym is ∙ a.if-member.false) j
+      | then-member a ↦ set_in i w c.if-member.set p c.entries.invariant (sym is ∙ a.if-member.true) (λ j. ap (λ s. has s j) a.set-is ∙ a.insert-set.ensures.members j)
+      | else-member a ↦ λ j. ap (λ s. has s j) a.set-is ∙ set_out i w p c.entries.invariant (sym is ∙ a.if-member.false) j
     ]

@@ -12,7 +12,7 @@ pub entries-preserved : goal.entries-preserved
 entries-preserved c =
     let H = box_of c.args.base.now in
     let K = says (view c.args.book.now) in
-    filled_more (Plain Nothing) c.entry-at.result c.entries.j (entry_of H K) c.entries.entries (omega (arith, c.entries-test.true)) c.entry-at.ensures c.entries.invariant
+    filled_more (Plain Nothing) c.entry_at.result c.entries.j (entry_of H K) c.entries.entries (omega (arith, c.entries-test.true)) c.entry_at.ensures c.entries.invariant
 
 pub returns : goal.returns
 returns c =

@@ -15,6 +15,6 @@ list-preserved c =
     let i = c.args.i in
     let w = c.list.set in
     elim c.if-list-k.branch [
-      | then-list-k a ↦ springs_in origins first k i w c.if-list-k.set a.if-list-k.true c.list.invariant (λ j. ap (λ s. has s j) a.set_is ∙ a.insert-set.ensures.members j)
-      | else-list-k a ↦ λ j. ap (λ s. has s j) a.set_is ∙ springs_out origins first k i w a.if-list-k.false c.list.invariant j
+      | then-list-k a ↦ springs_in origins first k i w c.if-list-k.set a.if-list-k.true c.list.invariant (λ j. ap (λ s. has s j) a.set-is ∙ a.insert-set.ensures.members j)
+      | else-list-k a ↦ λ j. ap (λ s. has s j) a.set-is ∙ springs_out origins first k i w a.if-list-k.false c.list.invariant j
     ]
