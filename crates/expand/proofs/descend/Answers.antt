@@ -26,6 +26,6 @@ returns-then-clashes-2 c = along_dead (table_in c.args.plan.now) c.args.k c.args
 
 pub returns-else-clashes-2 : goal.returns-else-clashes-2
 returns-else-clashes-2 c = (
-  along_free (table_in c.args.plan.now) c.args.k c.args.label c.loop-i.left c.loop-i.at c.loop-i.invariant 0 (omega arith) c.in-default.ensures,
+  along_free (table_in c.args.plan.now) c.args.k c.args.label c.loop-i.left c.loop-i.at c.loop-i.invariant 0 (omega arith) c.in_default.ensures,
   sym c.if-clashes-2.ensures,
 )

@@ -6,7 +6,7 @@ use Rattle.expand.proofs.put_all.Goals as goal
 pub returns : goal.returns
 returns c =
     let l = c.args.label in
-    let f : l.plus < 2 ^ 64 = omega (arith, c.well-formed) in
+    let f : l.plus < 2 ^ 64 = omega (arith, c.well_formed) in
     run_is c.args.lo c.args.n c.union.result l f c.requires c.union.type_inv
     (λ j. c.union.ensures.members j
     ∙ ap (λ b. has l.plus j || b)

@@ -7,14 +7,14 @@ returns-then-k-plan c =
     let p = c.args.plan.now in
     seeds_past (box_in p) (table_in p) c.args.label c.args.k c.if-k-plan.true
 
-pub returns-in-Some-seed-at : goal.returns-in-Some-seed-at
-returns-in-Some-seed-at c =
+pub returns-in-Some-seed_at : goal.returns-in-Some-seed_at
+returns-in-Some-seed_at c =
     let p = c.args.plan.now in
     let l = c.args.label in
     let set = c.intersection-signed.result in
     let signed = signed_from (table_in p) l c.union.result c.below.result set c.union.ensures.members c.below.ensures.members c.intersection-signed.ensures.members in
-    passed_found (box_in p) (table_in p) l set signed c.args.k c.loop-i.start c.in-Some.i c.in-Some-seed-at.found
-    c.loop-i.invariant c.in-Some.ensures c.in-Some-seed-at.ensures
+    passed_found (box_in p) (table_in p) l set signed c.args.k c.loop-i.start c.in-Some.i c.in-Some-seed_at.found
+    c.loop-i.invariant c.in-Some.ensures c.in-Some-seed_at.ensures
 
 pub loop-i-preserved : goal.loop-i-preserved
 loop-i-preserved c =
@@ -23,7 +23,7 @@ loop-i-preserved c =
     let set = c.intersection-signed.result in
     let signed = signed_from (table_in p) l c.union.result c.below.result set c.union.ensures.members c.below.ensures.members c.intersection-signed.ensures.members in
     passed_idle (box_in p) (table_in p) l set signed c.args.k c.loop-i.start c.in-Some.i
-    c.loop-i.invariant c.in-Some.ensures c.in-default-seed-at.ensures
+    c.loop-i.invariant c.in-Some.ensures c.in_default-seed_at.ensures
 
 pub returns : goal.returns
 returns c =
@@ -31,4 +31,4 @@ returns c =
     let l = c.args.label in
     let set = c.intersection-signed.result in
     let signed = signed_from (table_in p) l c.union.result c.below.result set c.union.ensures.members c.below.ensures.members c.intersection-signed.ensures.members in
-    passed_all (box_in p) (table_in p) l set signed c.args.k c.loop-i.start c.loop-i.invariant c.in-default.ensures
+    passed_all (box_in p) (table_in p) l set signed c.args.k c.loop-i.start c.loop-i.invariant c.in_default.ensures

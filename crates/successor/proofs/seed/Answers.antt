@@ -13,8 +13,8 @@ loop-i-preserved c =
     let l = c.args.label in
     let set = c.intersection-telling.result in
     let telling = telling_from p l c.args.r c.union.result set c.union.ensures.members c.intersection-telling.ensures.members in
-    told_next p l c.args.r c.put-acc.result set c.requires.successor telling c.loop-i.start c.in-Some.i c.loop-i.acc c.tell-signs-acc.result
-    c.loop-i.invariant c.in-Some.ensures c.tell-signs-acc.ensures
+    told_next p l c.args.r c.put-acc.result set c.requires.successor telling c.loop-i.start c.in-Some.i c.loop-i.acc c.tell_signs-acc.result
+    c.loop-i.invariant c.in-Some.ensures c.tell_signs-acc.ensures
 
 pub returns : goal.returns
 returns c =
@@ -23,4 +23,4 @@ returns c =
     let set = c.intersection-telling.result in
     let telling = telling_from p l c.args.r c.union.result set c.union.ensures.members c.intersection-telling.ensures.members in
     seed_is p l c.args.r c.args.sign c.args.a c.put-acc.result c.loop-i.acc c.put-acc.ensures
-    (told_all p l c.args.r c.put-acc.result set c.requires.successor telling c.loop-i.start c.loop-i.acc c.loop-i.invariant c.in-default.ensures)
+    (told_all p l c.args.r c.put-acc.result set c.requires.successor telling c.loop-i.start c.loop-i.acc c.loop-i.invariant c.in_default.ensures)
