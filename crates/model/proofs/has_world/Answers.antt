@@ -6,6 +6,6 @@ use Rattle.model.proofs.has_world.Goals as goal
 
 pub returns : goal.returns
 returns c = record {
-  answer = c.has-world.ensures.answer ∙ ap told (find_same c.args.plan.now (length c.args.nodes.now) c.args.seed);
-  wiped = c.has-world.ensures.wiped;
+  answer = c.has_world.ensures.answer ∙ ap told (find_same c.args.plan.now (length c.args.nodes.now) c.args.seed);
+  wiped = c.has_world.ensures.wiped;
 }
