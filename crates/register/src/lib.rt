@@ -2,6 +2,7 @@
 // world that keeps the book holds them apart; says whether one class is within another; and shows a world that holds two
 // apart. It works in nodes and words that it is lent.
 #![tactic(auto)]
+
 ghost use Rattle.std.specs.Prelude.{◌≡◌, ℕ, ◌+◌, ◌<◌, ◌≤◌, length, slice_index};
 
 use plan::Plan;

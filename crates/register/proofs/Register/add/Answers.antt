@@ -2,24 +2,9 @@ use Rattle.std.proofs.Common.{◌≡◌, ◌≢◌, sym, refl, ap, ◌∙◌, �
 use Rattle.register.proofs.Adding.{named_more, added_reply, added_classes}
 use Rattle.register.proofs.Register.add.Goals as goal
 
-pub invariant-of-self : goal.invariant-of-self
-invariant-of-self c =
-    let r = c.args.self.now in (
-      r.wide,
-      (
-        r.universal,
-        (
-          r.few_entries,
-          (
-            length-set r.classes r.count c.args.entry ∙ r.long,
-            (
-              omega arith,
-              (named_more r.classes r.count c.args.entry r.entries (omega (arith, r.long)) c.requires r.named, tt),
-            ),
-          ),
-        ),
-      ),
-    )
+pub invariant_of-self : goal.invariant_of-self
+invariant_of-self c =
+    let r = c.args.self.now in record { wide = r.wide; universal = r.universal; few_entries = r.few_entries; long = length-set r.classes r.count c.args.entry ∙ r.long; few = omega arith; named = named_more r.classes r.count c.args.entry r.entries (omega (arith, r.long)) c.requires r.named }
 
 pub returns : goal.returns
 returns c =

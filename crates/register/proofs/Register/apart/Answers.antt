@@ -22,10 +22,10 @@ returns c =
     let p = g.plan in
     let n = length c.args.nodes.now in
     record {
-      says = subst (Says c.find-in-blank.new.nodes c.find-in-blank.result)
+      says = subst (Says c.find_in_blank.new.nodes c.find_in_blank.result)
           (ap (explore (box_in p) (table_in p) n n []) c.rooted.ensures
-          ∙ ap (λ s. search_in (setup_of g) s n) c.seed-apart-seed.ensures
+          ∙ ap (λ s. search_in (setup_of g) s n) c.seed_apart-seed.ensures
           ∙ sym (apart_seed (setup_of g) g.classes g.count c.args.a c.args.b n (omega arith) c.requires.given.0 c.requires.given.1))
-          c.find-in-blank.ensures;
-      some = some_node p n c.rooted.result c.find-in-blank.new.nodes c.find-in-blank.result c.find-in-blank.ensures;
+          c.find_in_blank.ensures;
+      some = some_node p n c.rooted.result c.find_in_blank.new.nodes c.find_in_blank.result c.find_in_blank.ensures;
     }

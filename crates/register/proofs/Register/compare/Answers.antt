@@ -7,13 +7,13 @@ use Rattle.register.proofs.Register.compare.Goals as goal
 
 pub returns-in-NoRoom : goal.returns-in-NoRoom
 returns-in-NoRoom c = record {
-  value = first_unknown (setup_of c.args.self.now) c.args.a c.args.b (length c.args.nodes.now) c.seed_not_fits.result c.seed_not_fits.ensures c.in-NoRoom.ensures.answer;
+  value = first_unknown (setup_of c.args.self.now) c.args.a c.args.b (length c.args.nodes.now) c.seed_not.result c.seed_not.ensures c.in-NoRoom.ensures.answer;
   wiped = c.in-NoRoom.ensures.wiped;
 }
 
 pub returns-in-World : goal.returns-in-World
 returns-in-World c = record {
-  value = first_other (setup_of c.args.self.now) c.args.a c.args.b (length c.args.nodes.now) c.seed_not_fits.result c.seed_not_fits.ensures c.in-World.ensures.answer;
+  value = first_other (setup_of c.args.self.now) c.args.a c.args.b (length c.args.nodes.now) c.seed_not.result c.seed_not.ensures c.in-World.ensures.answer;
   wiped = c.in-World.ensures.wiped;
 }
 
@@ -22,8 +22,8 @@ returns-in-NoRoom-tried c =
     let S = setup_of c.args.self.now in
     let long : length c.tried.new.nodes ≡ length c.args.nodes.now = omega arith in
     record {
-      value = second_unknown S c.args.a c.args.b (length c.args.nodes.now) c.seed_not_fits.result c.seed_not_fits.ensures c.in-NoWorld.ensures.answer
-          c.seed-not-in-NoWorld.result c.seed-not-in-NoWorld.ensures (told_at S c.seed-not-in-NoWorld.result _ _ _ long c.in-NoRoom-tried.ensures.answer);
+      value = second_unknown S c.args.a c.args.b (length c.args.nodes.now) c.seed_not.result c.seed_not.ensures c.in-NoWorld.ensures.answer
+          c.seed_not-in-NoWorld.result c.seed_not-in-NoWorld.ensures (told_at S c.seed_not-in-NoWorld.result _ _ _ long c.in-NoRoom-tried.ensures.answer);
       wiped = c.in-NoRoom-tried.ensures.wiped ∙ ap (λ n. replicate n blank) long;
     }
 
@@ -32,8 +32,8 @@ returns-in-World-tried c =
     let S = setup_of c.args.self.now in
     let long : length c.tried.new.nodes ≡ length c.args.nodes.now = omega arith in
     record {
-      value = second_other S c.args.a c.args.b (length c.args.nodes.now) c.seed_not_fits.result c.seed_not_fits.ensures c.in-NoWorld.ensures.answer
-          c.seed-not-in-NoWorld.result c.seed-not-in-NoWorld.ensures (told_at S c.seed-not-in-NoWorld.result _ _ _ long c.in-World-tried.ensures.answer);
+      value = second_other S c.args.a c.args.b (length c.args.nodes.now) c.seed_not.result c.seed_not.ensures c.in-NoWorld.ensures.answer
+          c.seed_not-in-NoWorld.result c.seed_not-in-NoWorld.ensures (told_at S c.seed_not-in-NoWorld.result _ _ _ long c.in-World-tried.ensures.answer);
       wiped = c.in-World-tried.ensures.wiped ∙ ap (λ n. replicate n blank) long;
     }
 
@@ -42,7 +42,7 @@ returns-in-NoWorld-tried c =
     let S = setup_of c.args.self.now in
     let long : length c.tried.new.nodes ≡ length c.args.nodes.now = omega arith in
     record {
-      value = second_same S c.args.a c.args.b (length c.args.nodes.now) c.seed_not_fits.result c.seed_not_fits.ensures c.in-NoWorld.ensures.answer
-          c.seed-not-in-NoWorld.result c.seed-not-in-NoWorld.ensures (told_at S c.seed-not-in-NoWorld.result _ _ _ long c.in-NoWorld-tried.ensures.answer);
+      value = second_same S c.args.a c.args.b (length c.args.nodes.now) c.seed_not.result c.seed_not.ensures c.in-NoWorld.ensures.answer
+          c.seed_not-in-NoWorld.result c.seed_not-in-NoWorld.ensures (told_at S c.seed_not-in-NoWorld.result _ _ _ long c.in-NoWorld-tried.ensures.answer);
       wiped = c.in-NoWorld-tried.ensures.wiped ∙ ap (λ n. replicate n blank) long;
     }

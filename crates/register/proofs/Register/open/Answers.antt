@@ -10,11 +10,11 @@ returns g c =
     let h = c.args.hierarchy.now in
     let H = role_box (g.H.Order.size h) (g.H.Order.under h) (g.H.Hierarchy.passing h) in
     let K = says (view c.args.book.now) in
-    let p = c.in-ok-plan.plan in
-    let e = c.in-ok-plan.ensures in
+    let p = c.in_ok-plan.plan in
+    let e = c.in_ok-plan.ensures in
     record {
       answer = e.answer;
-      setup = setup_same H K p c.entry-count.result e.planned e.fitting c.entry-count.ensures;
+      setup = setup_same H K p c.entry_count.result e.planned e.fitting c.entry_count.ensures;
       fresh = refl;
-      right = right_from H K p c.entry-count.result e.planned e.fitting c.entry-count.ensures;
+      right = right_from H K p c.entry_count.result e.planned e.fitting c.entry_count.ensures;
     }

@@ -7,13 +7,13 @@ use Rattle.register.proofs.Register.place.Goals as goal
 
 pub returns-in-NoRoom : goal.returns-in-NoRoom
 returns-in-NoRoom c = record {
-  value = nothing_unknown (setup_of c.args.self.now) (classes_of c.args.self.now) c.args.entry (length c.args.nodes.now) c.seed_one_fits.result c.seed_one_fits.ensures c.in-NoRoom.ensures.answer;
+  value = nothing_unknown (setup_of c.args.self.now) (classes_of c.args.self.now) c.args.entry (length c.args.nodes.now) c.seed_one.result c.seed_one.ensures c.in-NoRoom.ensures.answer;
   wiped = c.in-NoRoom.ensures.wiped;
 }
 
 pub returns-in-NoWorld : goal.returns-in-NoWorld
 returns-in-NoWorld c = record {
-  value = nothing_fits (setup_of c.args.self.now) (classes_of c.args.self.now) c.args.entry (length c.args.nodes.now) c.seed_one_fits.result c.seed_one_fits.ensures c.in-NoWorld.ensures.answer;
+  value = nothing_fits (setup_of c.args.self.now) (classes_of c.args.self.now) c.args.entry (length c.args.nodes.now) c.seed_one.result c.seed_one.ensures c.in-NoWorld.ensures.answer;
   wiped = c.in-NoWorld.ensures.wiped;
 }
 
@@ -25,6 +25,6 @@ returns-in-World c =
     record {
       value = c.among.ensures.value
           ∙ ap (λ n. placed S c.args.entry n cs 1) long
-          ∙ something_placed S cs c.args.entry (length c.args.nodes.now) c.seed_one_fits.result c.seed_one_fits.ensures c.in-World.ensures.answer;
+          ∙ something_placed S cs c.args.entry (length c.args.nodes.now) c.seed_one.result c.seed_one.ensures c.in-World.ensures.answer;
       wiped = c.among.ensures.wiped ∙ ap (λ n. replicate n blank) long;
     }

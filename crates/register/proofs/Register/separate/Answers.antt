@@ -21,7 +21,7 @@ returns-in-Stands c =
     let ls = labels (take c.in-Stands.m c.apart.new.nodes) in
     let s = ap (λ k. showed_world (setup_of g) c.args.sheet.now 1 (labels (take k c.apart.new.nodes))) (sub-zero c.in-Stands.m)
     ∙ first_stood (setup_of g) (classes_of g) c.args.a c.args.b (length c.args.nodes.now) c.args.sheet.now ls c.in-Stands.ensures.says.0 in
-    record { reply = c.put-on.ensures.reply ∙ ap (λ x. x.reply) s; sheet = c.put-on.ensures.sheet ∙ ap (λ x. x.sheet) s }
+    record { reply = c.put_on.ensures.reply ∙ ap (λ x. x.reply) s; sheet = c.put_on.ensures.sheet ∙ ap (λ x. x.sheet) s }
 
 pub returns-in-Full : goal.returns-in-Full
 returns-in-Full c =
@@ -38,7 +38,7 @@ returns-in-Stands-apart c =
     let s = ap (λ k. showed_world (setup_of g) c.args.sheet.now 2 (labels (take k c.apart-in-Failed.new.nodes))) (sub-zero c.in-Stands-apart.m)
     ∙ second_comes (setup_of g) (classes_of g) c.args.a c.args.b n c.args.sheet.now c.in-Failed.ensures.says.0 (stands ls)
     (ap (apart (setup_of g) (classes_of g) c.args.b c.args.a) long ∙ c.in-Stands-apart.ensures.says.0) in
-    record { reply = c.put-on-in-Stands-apart.ensures.reply ∙ ap (λ x. x.reply) s; sheet = c.put-on-in-Stands-apart.ensures.sheet ∙ ap (λ x. x.sheet) s }
+    record { reply = c.put_on-in-Stands-apart.ensures.reply ∙ ap (λ x. x.reply) s; sheet = c.put_on-in-Stands-apart.ensures.sheet ∙ ap (λ x. x.sheet) s }
 
 pub returns-in-Full-apart : goal.returns-in-Full-apart
 returns-in-Full-apart c =

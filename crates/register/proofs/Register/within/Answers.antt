@@ -20,7 +20,7 @@ returns-in-NoRoom c =
     let g = c.args.self.now in
     record {
       value = asked_full (setup_of g) g.classes g.count c.args.a c.args.b (length c.args.nodes.now) (omega arith) (omega arith) c.requires.given.0 c.requires.given.1
-          c.seed-not-seed.result c.seed-not-seed.ensures c.in-NoRoom.ensures.answer;
+          c.seed_not-seed.result c.seed_not-seed.ensures c.in-NoRoom.ensures.answer;
       wiped = c.in-NoRoom.ensures.wiped;
     }
 
@@ -29,7 +29,7 @@ returns-in-World c =
     let g = c.args.self.now in
     record {
       value = asked_standing (setup_of g) g.classes g.count c.args.a c.args.b (length c.args.nodes.now) (omega arith) (omega arith) c.requires.given.0 c.requires.given.1
-          c.seed-not-seed.result c.seed-not-seed.ensures c.in-World.ensures.answer;
+          c.seed_not-seed.result c.seed_not-seed.ensures c.in-World.ensures.answer;
       wiped = c.in-World.ensures.wiped;
     }
 
@@ -38,6 +38,6 @@ returns-in-NoWorld c =
     let g = c.args.self.now in
     record {
       value = asked_failed (setup_of g) g.classes g.count c.args.a c.args.b (length c.args.nodes.now) (omega arith) (omega arith) c.requires.given.0 c.requires.given.1
-          c.seed-not-seed.result c.seed-not-seed.ensures c.in-NoWorld.ensures.answer;
+          c.seed_not-seed.result c.seed_not-seed.ensures c.in-NoWorld.ensures.answer;
       wiped = c.in-NoWorld.ensures.wiped;
     }
