@@ -4,8 +4,8 @@ use Rattle.register.specs.Registers.{setup_of, classes_of}
 use Rattle.listing.proofs.Numbers.{class_small}
 use Rattle.listing.proofs.add_line.Goals as goal
 
-pub overflow-cast-class : goal.overflow-cast-class
-overflow-cast-class c =
+pub overflow_cast-class : goal.overflow_cast-class
+overflow_cast-class c =
     let g = c.args.register.now in
     let few = length-take-le g.count g.classes (omega (arith, g.few, g.long)) in
     let small : c.in-Ok.class ≤ 24 =

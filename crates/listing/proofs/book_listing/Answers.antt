@@ -15,12 +15,12 @@ returns-in-Ok c =
     let same = rows_same s x rows.count rows.relation rows.transitive in
     let g = c.in-Ok.register in
     let o = c.in-Ok.ensures in
-    let n = c.entry-count.result in
+    let n = c.entry_count.result in
     record {
-      lines = subst (λ xs. IfOk c.filed-lines.result (λ v. vec_items v ≡ xs))
-          (opened_lines s (box_of x) same (setup_of g) (classes_of g) n o.answer o.setup o.fresh c.entry-count.ensures)
-          c.filed-lines.ensures;
-      right = λ _. opened_right s (box_of x) same (setup_of g) (classes_of g) n o.answer o.setup o.fresh c.entry-count.ensures o.right;
+      lines = subst (λ xs. IfOk c.filed_lines.result (λ v. vec_items v ≡ xs))
+          (opened_lines s (box_of x) same (setup_of g) (classes_of g) n o.answer o.setup o.fresh c.entry_count.ensures)
+          c.filed_lines.ensures;
+      right = λ _. opened_right s (box_of x) same (setup_of g) (classes_of g) n o.answer o.setup o.fresh c.entry_count.ensures o.right;
     }
 
 pub returns-in-Err : goal.returns-in-Err

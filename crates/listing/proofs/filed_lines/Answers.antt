@@ -15,10 +15,10 @@ pub entries-preserved : goal.entries-preserved
 entries-preserved c =
     let g = c.args.register in
     let before = c.entries.register in
-    let after = c.add-line.new.register in
-    let filed = c.in-ok-add-line.ensures in
+    let after = c.add_line.new.register in
+    let filed = c.in_ok-add_line.ensures in
     lines_more (setup_of before) (setup_of after) (classes_of before) (classes_of after) c.entries.entry c.args.entries
-    (vec_items c.entries.out) (vec_items c.add-line.new.out) (lines_of (history (setup_of g) (classes_of g) (filings c.args.entries)))
+    (vec_items c.entries.out) (vec_items c.add_line.new.out) (lines_of (history (setup_of g) (classes_of g) (filings c.args.entries)))
     c.entries-test.true filed.setup filed.classes filed.line c.entries.invariant
 
 pub returns : goal.returns

@@ -12,8 +12,8 @@ returns-in-Ok c =
     let s = view c.in-Ok.book in
     let was = c.in-Ok.ensures.value in
     record {
-      lines = subst (λ xs. IfOk c.book-listing.result (λ v. vec_items v ≡ xs)) (read_lines bytes s was) c.book-listing.ensures.lines;
-      right = read_right (reading bytes) s was c.book-listing.ensures.right;
+      lines = subst (λ xs. IfOk c.book_listing.result (λ v. vec_items v ≡ xs)) (read_lines bytes s was) c.book_listing.ensures.lines;
+      right = read_right (reading bytes) s was c.book_listing.ensures.right;
     }
 
 pub returns-in-Err : goal.returns-in-Err

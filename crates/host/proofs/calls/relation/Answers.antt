@@ -10,31 +10,31 @@ use Rattle.host.proofs.Comparing.{same_filing}
 use Rattle.host.proofs.Relating.{read_refused, open_refused, opened_files, found_means}
 use Rattle.host.proofs.calls.relation.Goals as goal
 
-pub returns-in-err-book : goal.returns-in-err-book
-returns-in-err-book c =
-    let p = err_from_is_err_and c.from-residual.result c.from-residual.ensures.1 in
+pub returns-in_err-book : goal.returns-in_err-book
+returns-in_err-book c =
+    let p = err_from_is_err_and c.from_residual.result c.from_residual.ensures.1 in
     record {
       value = ap (answer (λ x. x) denial_report) p.1 ∙ ap (λ d. denied (denial_report d)) p.2
-          ∙ read_refused c.args.bytes.now c.args.first c.args.second (record_report c.in-err-book.field-0.0) c.in-err-book.ensures.value;
-      meaning = IfOk-from_err c.from-residual.result _ c.from-residual.ensures.0;
+          ∙ read_refused c.args.bytes.now c.args.first c.args.second (record_report c.in_err-book.field-0.0) c.in_err-book.ensures.value;
+      meaning = IfOk-from_err c.from_residual.result _ c.from_residual.ensures.0;
     }
 
-pub returns-in-err-register : goal.returns-in-err-register
-returns-in-err-register c =
-    let s = view c.in-ok-book.book in
-    let p = err_from_is_err_and c.from-residual-in-err-register.result c.from-residual-in-err-register.ensures.1 in
+pub returns-in_err-register : goal.returns-in_err-register
+returns-in_err-register c =
+    let s = view c.in_ok-book.book in
+    let p = err_from_is_err_and c.from_residual-in_err-register.result c.from_residual-in_err-register.ensures.1 in
     record {
       value = ap (answer (λ x. x) denial_report) p.1 ∙ ap (λ d. denied (denial_report d)) p.2
-          ∙ open_refused c.args.bytes.now c.args.first c.args.second s (denial_report c.in-err-register.field-0.0)
-          c.in-ok-book.ensures.value c.in-err-register.ensures.answer;
-      meaning = IfOk-from_err c.from-residual-in-err-register.result _ c.from-residual-in-err-register.ensures.0;
+          ∙ open_refused c.args.bytes.now c.args.first c.args.second s (denial_report c.in_err-register.field-0.0)
+          c.in_ok-book.ensures.value c.in_err-register.ensures.answer;
+      meaning = IfOk-from_err c.from_residual-in_err-register.result _ c.from_residual-in_err-register.ensures.0;
     }
 
 pub returns : goal.returns
 returns c =
-    let s = view c.in-ok-book.book in
-    let read = c.in-ok-book.ensures in
-    let opened = c.in-ok-register.ensures in
+    let s = view c.in_ok-book.book in
+    let read = c.in_ok-book.ensures in
+    let opened = c.in_ok-register.ensures in
     let files = c.filed.ensures
     ∙ same_filing _ (setup (roles_of s) (says s)) _ [] _ nodes_lent c.args.first c.args.second opened.setup opened.fresh refl in
     record {
