@@ -9,7 +9,7 @@ use Rattle.tableau.specs.declared.Label.{Label}
 use Rattle.tableau.specs.Labels.{empty, put}
 use Rattle.tableau.specs.Search.{Outcome, failed, full, stands}
 use Rattle.tableau.specs.Working.{everywhere_entry, width_of, table_of, rooted, seed_of_not, seed_of_one}
-use Rattle.tableau.specs.Promises.{Opens, Satisfies, Seed, search_from, FailureIsRight, Realised, RoomSuffices, StandingLabelsDiffer, EdgesAreThoseChosen, SearchDecides}
+use Rattle.tableau.specs.Promises.{Opens, Satisfies, Seed, search_from, FailureIsRight, Realised, RoomSuffices, SearchWithinRoom, StandingLabelsDiffer, EdgesAreThoseChosen, SearchDecides}
 use Rattle.tableau.proofs.Labelling.{in_empty, put_in, put_keeps, put_cases}
 use Rattle.tableau.proofs.Tables.{rooted_everywhere, rooted_cases}
 use Rattle.tableau.proofs.Tabling.{lower, tabled}
@@ -36,9 +36,11 @@ root_holding H K s = (true, everywhere_entry H K, rooted_everywhere H K s)
 pub room_suffices : RoomSuffices
 room_suffices H K P s seed n = record {
   enough = λ room e. roomy (with_universal H) (table_of H K) (lower H K P) n room (rooted H K s) (root_narrow H K s seed) (root_holding H K s) e;
-  within = λ ls e. within (with_universal H) (table_of H K) n n [] (rooted H K s) ls e;
   distinct = λ ls e. distinct (with_universal H) (table_of H K) (lower H K P) n (rooted H K s) (root_narrow H K s seed) (root_holding H K s) ls e;
 }
+
+pub search_within_room : SearchWithinRoom
+search_within_room H K P s seed n ls e = within (with_universal H) (table_of H K) n n [] (rooted H K s) ls e
 
 -- the moments of the root's search
 pub standing_labels_differ : StandingLabelsDiffer

@@ -17,7 +17,7 @@ use Rattle.tableau.specs.Search.{or_else, and_then, reuse, pursue, meet_from, tr
 use Rattle.tableau.specs.Found.{leads, edge, joined, borne}
 use Rattle.tableau.specs.Working.{propagated_list, entry_of, propagates_of, width_of}
 use Rattle.tableau.specs.Promises.{Opens}
-use Rattle.tableau.specs.Examples.{roles_a, book_a, roles_b, book_b, WorkedExamples}
+use Rattle.tableau.specs.Examples.{roles_a, book_a, roles_b, book_b, WorkedExamples, ExamplesOpen}
 use Rattle.tableau.proofs.Tests.{never}
 
 -- below in the first hierarchy is "at most" among 0 and 1, used and made
@@ -150,8 +150,6 @@ opens_b = let w : width_of roles_b book_b ≡ 5 = refl in record { ordered = ord
 pub worked_examples : WorkedExamples
 unfolding has any all reach fold gather empty in_label put contains any_contains lowest clash taken branch expand expansions told_propagated seed_of or_else and_then reuse pursue meet_from try_each enter explore leads edge joined borne propagated_list entry_of propagates_of
 worked_examples = record {
-  a_opens = opens_a;
-  b_opens = opens_b;
   a_width = refl;
   b_width = refl;
   a_fails = refl;
@@ -161,3 +159,6 @@ worked_examples = record {
   b_loop = refl;
   b_full = refl;
 }
+
+pub examples_open : ExamplesOpen
+examples_open = record { a_opens = opens_a; b_opens = opens_b }

@@ -14,11 +14,10 @@ use Rattle.tableau.specs.declared.Ways.TheVariants.{One, Two}
 use Rattle.tableau.specs.declared.Obligation.{Obligation}
 use Rattle.tableau.specs.declared.Obligation.TheVariants.{Idle, Wants}
 use Rattle.tableau.specs.Labels.{empty, in_label, put, any_contains}
-use Rattle.tableau.specs.Entries.{Table}
+use Rattle.tableau.specs.Entries.{Table, means, Meaning, Follows, Tabled}
 use Rattle.tableau.specs.Expansions.{absurd_entry, clash_at, clash, one_of, grown, taken, branch, expand, expansions}
 use Rattle.tableau.specs.Seeds.{obliges, sign_of, obliged_at, role_of, seed_of}
 use Rattle.tableau.specs.Search.{failed, Searcher, reuse, pursue, meet_from, try_each, enter, explore}
-use Rattle.tableau.proofs.Laws.{means, Meaning, Follows, Tabled}
 use Rattle.tableau.proofs.Tests.{never, not_sign}
 use Rattle.tableau.proofs.Folding.{fold_keeps}
 use Rattle.tableau.proofs.Labelling.{in_empty, put_cases}

@@ -1,7 +1,6 @@
 pub mod Tests
 pub mod Folding
 pub mod Labelling
-pub mod Laws
 pub mod Meanings
 pub mod Restrictions
 pub mod Clashing

@@ -4,8 +4,7 @@ use Rattle.meaning.specs.Worlds.{Interpretation}
 use Rattle.meaning.proofs.Meanings.{denotes_same, all_same}
 use Rattle.tableau.specs.declared.Entry.{Entry}
 use Rattle.tableau.specs.declared.Entry.TheVariants.{Plain, Inclusion, Inclusions}
-use Rattle.tableau.specs.Entries.{LowerEntry}
-use Rattle.tableau.proofs.Laws.{means, Meaning, deep_entry, holds_entry}
+use Rattle.tableau.specs.Entries.{LowerEntry, means, Meaning, deep_entry, holds_entry}
 
 -- an entry's meaning depends on its parts alone
 pub means_same : (W : Interpretation) (i : ℕ) (e : Entry) → LowerEntry i e → (g h : ℕ → ℕ → Bool) → ((a y : ℕ) → a < i → g a y ≡ h a y)

@@ -14,7 +14,7 @@ use Rattle.tableau.specs.Seeds.{obliged_at, seed_of}
 use Rattle.tableau.specs.Found.{found}
 use Rattle.tableau.specs.Working.{plain_of, book_entry, everywhere_entry, width_of, entry_of, table_of, rooted}
 use Rattle.tableau.specs.Promises.{Opens, Satisfies, Seed, found_world, Realised, SuccessIsRight}
-use Rattle.tableau.proofs.Laws.{means, Meaning, holds_entry}
+use Rattle.tableau.specs.Entries.{means, Meaning, holds_entry}
 use Rattle.tableau.proofs.Labelling.{Holds}
 use Rattle.tableau.proofs.Meanings.{entries_mean}
 use Rattle.tableau.proofs.Tests.{implied}

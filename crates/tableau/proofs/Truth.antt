@@ -16,11 +16,10 @@ use Rattle.tableau.specs.declared.Entry.TheVariants.{Plain, Inclusion, Inclusion
 use Rattle.tableau.specs.declared.Obligation.{Obligation}
 use Rattle.tableau.specs.declared.Obligation.TheVariants.{Idle, Wants}
 use Rattle.tableau.specs.Labels.{empty, in_label, contains, lowest}
-use Rattle.tableau.specs.Entries.{Table, LowerEntry, Ordered}
+use Rattle.tableau.specs.Entries.{Table, LowerEntry, Ordered, means, Meaning, Follows, Concepts, Ruling, Tabled}
 use Rattle.tableau.specs.Expansions.{absurd_entry, clash}
 use Rattle.tableau.specs.Seeds.{obliges, sign_of, obliged_at, role_of, seed_of}
 use Rattle.tableau.specs.Found.{is_name, leads, edge, joined, borne, found}
-use Rattle.tableau.proofs.Laws.{means, Meaning, Follows, Concepts, Ruling, Tabled}
 use Rattle.tableau.proofs.Tests.{never, not_sign}
 use Rattle.tableau.proofs.Labelling.{Holds, There, lowest_there, contains_at}
 use Rattle.tableau.proofs.Clashing.{one_sign, no_absurd}

@@ -55,14 +55,19 @@ SuccessIsRight =
     (H : RoleBox) (K : Book) → Opens H K → (s : Label) → Seed K s → (n : ℕ) (ls : List Label) → search_from H K s n ≡ stands ls
     → Realised H K s ls
 
--- Room: with 3 ^ w nodes the search is never without room; the labels that it leaves are at most n, and pairwise different.
+-- Room: with 3 ^ w nodes the search is never without room, and the labels that stand are pairwise different.
 pub record Roomy (H : RoleBox) (K : Book) (s : Label) (n : ℕ) : Type 0 where
   pub enough : 3 ^ width_of H K ≤ n → search_from H K s n ≢ full
-  pub within : (ls : List Label) → search_from H K s n ≡ stands ls → length ls ≤ n
-  pub distinct : (ls : List Label) → search_from H K s n ≡ stands ls → Different ls
+  pub distinct : (ls : List Label) → search_from H K s n ≡ stands ls → (i j : ℕ) → i < j → j < length ls → slice_index_or ls i empty ≢ slice_index_or ls j empty
 
 abbrev pub RoomSuffices : Type 0
 RoomSuffices = (H : RoleBox) (K : Book) → Opens H K → (s : Label) → Seed K s → (n : ℕ) → Roomy H K s n
+
+-- A search in n nodes leaves at most n labels.
+abbrev pub SearchWithinRoom : Type 0
+SearchWithinRoom =
+    (H : RoleBox) (K : Book) → Opens H K → (s : Label) → Seed K s → (n : ℕ) (ls : List Label) → search_from H K s n ≡ stands ls
+    → length ls ≤ n
 
 -- a moment of the search from the seed: at depth k, with node x at work at entry i, the labels st stand
 abbrev pub MomentOf : RoleBox → Book → Label → ℕ → ℕ → ℕ → ℕ → List Label → Type 0

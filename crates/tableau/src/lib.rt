@@ -1,8 +1,9 @@
 // The search for a world, as a value, and the theorems about it. There is no code here beyond the types that the
 // definitions share with the code of the search, and the functions that carry the theorems.
 #![tactic(auto)]
-ghost use Rattle.tableau.specs.Examples.{WorkedExamples};
-ghost use Rattle.tableau.specs.Promises.{FailureIsRight, SuccessIsRight, RoomSuffices, StandingLabelsDiffer, EdgesAreThoseChosen, SearchDecides};
+
+ghost use Rattle.tableau.specs.Examples.{WorkedExamples, ExamplesOpen};
+ghost use Rattle.tableau.specs.Promises.{FailureIsRight, SuccessIsRight, RoomSuffices, SearchWithinRoom, StandingLabelsDiffer, EdgesAreThoseChosen, SearchDecides};
 
 use meaning::Concept;
 
@@ -45,6 +46,13 @@ pub fn examples_hold() -> u8
     0
 }
 
+// Both worked books open: the theorems speak of them.
+pub fn examples_open() -> u8
+    ensures { ExamplesOpen }
+{
+    0
+}
+
 // Where the search fails, no individual of any finite world that keeps the book satisfies the seed.
 pub fn failure_is_right() -> u8
     ensures { FailureIsRight }
@@ -59,9 +67,16 @@ pub fn success_is_right() -> u8
     0
 }
 
-// With 3 ^ w nodes the search is never without room; the labels that it leaves are at most n, and pairwise different.
+// With 3 ^ w nodes the search is never without room, and labels that stand are pairwise different.
 pub fn room_suffices() -> u8
     ensures { RoomSuffices }
+{
+    0
+}
+
+// A search in n nodes leaves at most n labels.
+pub fn search_within_room() -> u8
+    ensures { SearchWithinRoom }
 {
     0
 }
