@@ -30,7 +30,6 @@ pub struct Plan {
     pub nothing: u64,
     pub everything: u64,
     ghost few: { width ≤ 64 },
-    ghost roles_few: { count ≤ 64 },
     ghost entries_long: { length entries ≡ 64 },
     ghost rows_long: { length rows ≡ 64 },
     ghost above_long: { length above ≡ 64 },

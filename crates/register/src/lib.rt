@@ -26,6 +26,7 @@ pub struct Register {
     count: usize,
     ghost wide: { entries + 2 ≤ plan.width },
     ghost universal: { 0 < plan.count },
+    ghost few_roles: { plan.count ≤ 64 },
     ghost few_entries: { entries ≤ 60 },
     ghost long: { length classes ≡ 24 },
     ghost few: { count ≤ 24 },

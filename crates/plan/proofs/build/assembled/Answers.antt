@@ -28,7 +28,7 @@ invariant_of-result c =
     let counted = list.counted in
     let first = c.entry_count-first.ensures in
     let width = c.requires.width in
-    let same = es.ensures in record { few = omega arith; roles_few = omega (arith, c.count.ensures, P.few); entries_long = search rules; rows_long = search rules; above_long = search rules; propagated_long = search rules; low = all_lowered H K P es.result same; roles_in = roles_in H K P es.result same; above_is = c.above.ensures; inside = λ i j e. omega (arith, rows_inside H K P c.args.list.now list c.entry_count-first.result first rows.result long rows.ensures i j e); nothing_is = c.absurd_set.ensures; everything_is = c.absurd_set-2.ensures }
+    let same = es.ensures in record { few = omega arith; entries_long = search rules; rows_long = search rules; above_long = search rules; propagated_long = search rules; low = all_lowered H K P es.result same; roles_in = roles_in H K P es.result same; above_is = c.above.ensures; inside = λ i j e. omega (arith, rows_inside H K P c.args.list.now list c.entry_count-first.result first rows.result long rows.ensures i j e); nothing_is = c.absurd_set.ensures; everything_is = c.absurd_set-2.ensures }
 
 pub returns : goal.returns
 returns c =
