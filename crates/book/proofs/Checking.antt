@@ -1,7 +1,6 @@
 -- What checking the records comes to, case by case.
-use Rattle.std.proofs.Common.{◌≡◌, ℕ, ◌+◌, ◌*◌, ◌/◌, Bool, true, false, not, ◌&&◌, List, length, is_some, Some, None, sym, refl, ap, ◌∙◌}
-use Rattle.std.proofs.lemmas.Bool.{and_from}
-use Rattle.denial.specs.Denials.{Answer, granted, denied, reported}
+use Rattle.std.proofs.Common.{◌≡◌, ℕ, ◌+◌, ◌*◌, ◌/◌, true, List, length, Some, None}
+use Rattle.denial.specs.Denials.{granted, denied, reported}
 use Rattle.denial.specs.declared.Layer.TheVariants.{Records}
 use Rattle.book.specs.declared.trailer.Layout.{Layout}
 use Rattle.book.specs.Sections.{Sections}

@@ -1,14 +1,14 @@
 -- What the layout of a book comes to, case by case.
-use Rattle.std.proofs.Common.{◌≡◌, ℕ, ◌+◌, ◌-◌, ◌*◌, ◌<◌, ◌≤◌, Bool, true, false, cond, ◌&&◌, ◌||◌, eqb, ltb, leb, List, length, is_some, Some, None, Option, sym, refl, ap, ◌∙◌, subst, ⊎_elim, arith}
-use Rattle.std.proofs.lemmas.Bool.{or_parts, and_parts, and_from, and_left, and_right, le-leb, lt-leb, ltb-false, cond-true, cond-false, cases_lt}
-use Rattle.denial.specs.Denials.{Answer, granted, denied, reported}
+use Rattle.std.proofs.Common.{◌≡◌, ℕ, ◌+◌, ◌*◌, ◌<◌, ◌≤◌, Bool, true, false, ◌&&◌, ◌||◌, ltb, leb, List, length, is_some, Some, None, Option, sym, refl, ap, ⊎_elim, arith}
+use Rattle.std.proofs.lemmas.Bool.{or_parts, and_from, and_left, and_right, le-leb, lt-leb, ltb-false, cond-false, cases_lt}
+use Rattle.denial.specs.Denials.{granted, denied, reported}
 use Rattle.denial.specs.declared.Report.{Report}
 use Rattle.denial.specs.declared.Layer.TheVariants.{Trailer}
 use Rattle.meaning.specs.Bounded.{first}
 use Rattle.meaning.proofs.Firsts.{Clear, clear_from}
 use Rattle.book.specs.declared.trailer.Section.{Section}
 use Rattle.book.specs.declared.trailer.Layout.{Layout}
-use Rattle.book.specs.Layouts.{trailer_start, section_from, bad_count, bad_place, layout_of, least, most, end_of, unless_bad, laying, Laid}
+use Rattle.book.specs.Layouts.{trailer_start, section_from, bad_count, bad_place, layout_of, least, most, end_of, laying, Laid}
 
 module _ (bytes : List ℕ) where
   fits : 16 ≤ length bytes → length bytes ≤ 8192 → (leb 16 (length bytes) && leb (length bytes) 8192) ≡ true

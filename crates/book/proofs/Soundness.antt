@@ -1,20 +1,18 @@
 -- A book without a bad record is sound.
-use Rattle.std.proofs.Common.{◌≡◌, ℕ, zero, suc, ◌+◌, ◌*◌, ◌/◌, ◌%◌, ◌<◌, ◌≤◌, Bool, true, false, cond, not, ◌&&◌, eqb, ltb, ◌⊎◌, List, length, get_or, is_some, sym, refl, ap, ◌∙◌, subst, inl, inr, ⊎_elim, arith}
+use Rattle.std.proofs.Common.{◌≡◌, ℕ, zero, suc, ◌+◌, ◌*◌, ◌/◌, ◌%◌, ◌<◌, ◌≤◌, Bool, true, false, not, ◌&&◌, eqb, ltb, ◌⊎◌, List, length, get_or, sym, refl, subst, inl, inr, ⊎_elim, arith}
 use Rattle.std.proofs.lemmas.List.{get_or_past, length-take-le}
 use Rattle.std.proofs.lemmas.Bool.Decides.{nat_tests}
-use Rattle.std.proofs.lemmas.Bool.{and_parts, and_from, not-true, not-false, ltb-true, eqb-true, eq-eqb, cases_lt, cases_order, both_ways}
-use Rattle.meaning.specs.Bounded.{any, first}
+use Rattle.std.proofs.lemmas.Bool.{and_parts, and_from, not-true, not-false, ltb-true, eq-eqb, cases_lt, cases_order, both_ways}
 use Rattle.meaning.specs.Worlds.{Lower}
-use Rattle.meaning.specs.declared.Concept.{Concept}
 use Rattle.meaning.specs.Books.{Sound}
-use Rattle.meaning.specs.declared.Concept.TheVariants.{Nothing, Everything, Name, Not, And, Or, Restriction}
+use Rattle.meaning.specs.declared.Concept.TheVariants.{Name, Restriction}
 use Rattle.meaning.specs.declared.Quantifier.{Quantifier}
 use Rattle.meaning.specs.declared.Quantifier.TheVariants.{Exists, Forall, NoneOf}
 use Rattle.meaning.proofs.Tests.{any_from}
-use Rattle.book.specs.Sections.{Sections, says, decode, concept_at}
+use Rattle.book.specs.Sections.{says, decode, concept_at}
 use Rattle.book.specs.declared.Book.{Book}
 use Rattle.book.specs.Views.{view}
-use Rattle.book.specs.Records.{bad_role, unfit, bad_concept, named, fitting, lowest_bad_role, lowest_unfit, lowest_bad_concept, faultless}
+use Rattle.book.specs.Records.{bad_role, unfit, bad_concept, named, fitting, faultless}
 use Rattle.meaning.proofs.Firsts.{Clear, clear_from}
 
 -- the records of each section are good

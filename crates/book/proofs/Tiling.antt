@@ -1,5 +1,5 @@
 -- The parts of a book laid end to end are the book.
-use Rattle.std.proofs.Common.{◌≡◌, ℕ, ◌+◌, ◌-◌, ◌*◌, ◌<◌, ◌≤◌, Bool, true, false, cond, ltb, List, [], ◌∷◌, ◌++◌, length, take, drop, sym, refl, ap, ◌∙◌, subst, ⊎_elim, arith}
+use Rattle.std.proofs.Common.{◌≡◌, ℕ, ◌+◌, ◌-◌, ◌*◌, ◌<◌, ◌≤◌, List, [], ◌∷◌, ◌++◌, length, drop, sym, refl, ap, ◌∙◌, subst, ⊎_elim, arith}
 use Rattle.std.proofs.lemmas.List.{take-append-drop, drop-drop, drop_all, length-take-le, length-drop}
 use Rattle.std.proofs.lemmas.Bool.{lt-ltb, le-ltb, cases_lt}
 use Rattle.denial.specs.Denials.{Answer, granted, denied, and_then}
@@ -10,7 +10,7 @@ use Rattle.book.specs.declared.parts.Stage.TheVariants.{AtRoles, AtPairs, AtConc
 use Rattle.book.specs.Sections.{Sections}
 use Rattle.book.specs.Layouts.{laying, layout_of, trailer_start, Laid}
 use Rattle.book.specs.Reading.{cut, reading, checking, sections_of}
-use Rattle.book.specs.Pieces.{Kind, Piece, piece, note_at, of_roles, of_pairs, of_concepts, of_rules, of_note, of_trailer, target_of, pieces_from_trailer, pieces_from_rules, pieces_from_concepts, pieces_from_pairs, pieces_from_roles, parts_of, EndToEnd, Tiles}
+use Rattle.book.specs.Pieces.{Kind, Piece, piece, note_at, of_roles, of_pairs, of_concepts, of_rules, of_note, of_trailer, target_of, pieces_from_roles, parts_of, EndToEnd, Tiles}
 use Rattle.book.proofs.Layouting.{laid_from}
 
 module _ (bytes : List ℕ) where

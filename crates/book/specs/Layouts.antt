@@ -1,5 +1,5 @@
 -- The layout of a book by its trailer, and what is refused of it.
-use Rattle.std.specs.Prelude.{ℕ, suc, pred, ◌+◌, ◌-◌, ◌*◌, ◌≤◌, Bool, cond, ◌&&◌, ◌||◌, List, [], ◌∷◌, length, Some, None, Option, ◌==◌, nat_le, nat_lt, slice_index}
+use Rattle.std.specs.Prelude.{ℕ, ◌+◌, ◌-◌, ◌*◌, ◌≤◌, Bool, cond, ◌&&◌, ◌||◌, List, [], ◌∷◌, length, Some, None, Option, ◌==◌, nat_le, nat_lt, slice_index}
 use Rattle.denial.specs.declared.Report.{Report}
 use Rattle.denial.specs.declared.Layer.TheVariants.{Trailer}
 use Rattle.denial.specs.Denials.{Answer, granted, denied, reported}

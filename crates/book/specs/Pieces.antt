@@ -1,5 +1,5 @@
 -- The parts of a book, as pieces of its bytes.
-use Rattle.std.specs.Prelude.{◌≡◌, ℕ, ◌+◌, ◌-◌, ◌*◌, Bool, true, cond, List, [], ◌∷◌, ◌++◌, length, nat_lt}
+use Rattle.std.specs.Prelude.{◌≡◌, ℕ, ◌+◌, ◌-◌, ◌*◌, cond, List, [], ◌∷◌, ◌++◌, length, nat_lt}
 use Rattle.denial.specs.Denials.{Answer, granted, denied}
 use Rattle.book.specs.declared.parts.Part.{Part}
 use Rattle.book.specs.declared.parts.Part.TheVariants.{Roles, Pairs, Concepts, Rules, Note, Trailer}

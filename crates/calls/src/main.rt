@@ -1,5 +1,6 @@
 // Answers a script of calls on a book from standard input, a line each.
 #![tactic(auto)]
+
 use std::io;
 
 fn main(rt: HostRuntime) -> io::Result<()> {

@@ -1,5 +1,6 @@
 // Prints the listing of the book on standard input.
 #![tactic(auto)]
+
 use listing::listing;
 use std::io;
 use std::io::{Read, Write};

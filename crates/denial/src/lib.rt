@@ -1,6 +1,7 @@
 // Every refusal: one enum for each layer, the upper one handing the lower one's refusal on whole, and the report
 // (number, detail, layer) that a definition gives to each case.
 #![tactic(auto)]
+
 ghost use Rattle.std.specs.Prelude.{◌≡◌};
 ghost use Rattle.denial.specs.Denials.{trailer_report, record_report, denial_report, from_trailer, from_record};
 

@@ -1,5 +1,6 @@
 // Any world written on lent words as a sheet.
 #![tactic(auto)]
+
 ghost use Rattle.std.specs.Prelude.{◌≡◌, length, IfOk};
 ghost use Rattle.denial.specs.Denials.{answer, denial_report};
 ghost use Rattle.drawing.specs.Drawings.{drawn_on, drawing, Drawn, DrawingIsRight, DrawnAlike};

@@ -1,5 +1,5 @@
 -- What comes of a label up to the first entry that has two alternatives.
-use Rattle.std.specs.Prelude.{◌≡◌, ℕ, zero, suc, ◌<◌, ◌≤◌, Bool, false, []}
+use Rattle.std.specs.Prelude.{◌≡◌, ℕ, suc, ◌<◌, ◌≤◌, Bool, false, []}
 use Rattle.tableau.specs.declared.Label.{Label}
 use Rattle.tableau.specs.declared.Ways.TheVariants.{Two}
 use Rattle.tableau.specs.Labels.{in_label}

@@ -1,5 +1,6 @@
 // The expansions of a seed, one after another, by choice words.
 #![tactic(auto)]
+
 ghost use Rattle.std.specs.Prelude.{◌≡◌, ℕ, ◌+◌, ◌<◌, ◌≤◌, true, false, ◌&&◌, ◌||◌, [], ◌∷◌, MatchOption, nat_lt};
 ghost use Rattle.words.specs.Sets.{has};
 ghost use Rattle.tableau.specs.Folds.{fold};

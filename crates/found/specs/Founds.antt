@@ -1,5 +1,5 @@
 -- The found world of a plan, and what the code keeps of it.
-use Rattle.std.specs.Prelude.{ℕ, ◌+◌, ◌-◌, ◌*◌, min, max, Bool, cond, not, ◌&&◌, ◌||◌, List, length, ◌==◌, bit_and, nat_le, nat_lt, slice_index, slice_index_or}
+use Rattle.std.specs.Prelude.{ℕ, ◌+◌, ◌*◌, Bool, cond, not, ◌&&◌, ◌||◌, List, length, ◌==◌, bit_and, nat_le, nat_lt, slice_index, slice_index_or}
 use Rattle.std.proofs.Common.{arith}
 use Rattle.words.specs.Sets.{has}
 use Rattle.denial.specs.Denials.{Answer, granted, denied, reported}

@@ -72,15 +72,15 @@ fn alone<'a>(rest: &str, call: Call<'a>) -> Option<Call<'a>> {
 
 fn below<'a>(rest: &str) -> Option<Call<'a>> {
     let (name, numbers) = cut(rest);
-    let hierarchy = source(name)?;
+    let source = Source::parse(name)?;
     let (r, s) = cut(numbers);
-    Some(Call::Below(hierarchy, number(r)?, number(s)?))
+    Some(Call::Below(source, number(r)?, number(s)?))
 }
 
 fn transitive<'a>(rest: &str) -> Option<Call<'a>> {
     let (name, r) = cut(rest);
-    let hierarchy = source(name)?;
-    Some(Call::Transitive(hierarchy, number(r)?))
+    let source = Source::parse(name)?;
+    Some(Call::Transitive(source, number(r)?))
 }
 
 fn sheet<'a>(rest: &'a str) -> Option<Call<'a>> {
@@ -127,16 +127,6 @@ fn base(name: &str) -> Option<Base> {
     match name {
         "closed" => Some(Base::Closed),
         "told" => Some(Base::Told),
-        _ => None,
-    }
-}
-
-fn source(name: &str) -> Option<Source> {
-    match name {
-        "closed" => Some(Source::Closed),
-        "told" => Some(Source::Told),
-        "closed+universal" => Some(Source::ClosedUniversal),
-        "told+universal" => Some(Source::ToldUniversal),
         _ => None,
     }
 }

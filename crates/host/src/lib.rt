@@ -1,5 +1,7 @@
-// The call for hosts that are not written in Rattle: a book as bytes and two of its entries, answered by one number.
+// The call for hosts that are not written in Rattle: a book as bytes and two of its entries, answered by one number. The
+// static library `host_c` exports it for C.
 #![tactic(auto)]
+
 ghost use Rattle.std.specs.Prelude.{◌≡◌};
 ghost use Rattle.denial.specs.Denials.{granted};
 ghost use Rattle.book.specs.Sections.{Sections, says};
@@ -23,8 +25,7 @@ const REFUSED: u32 = 100;
 // other; and 100 and the number of the first refusal. The order of work is: reading the book, opening a register under its
 // own hierarchy, filing the first entry, filing the second, asking whether the first class is within the second, and
 // asking the reverse.
-#[unsafe(no_mangle)]
-pub extern "C" fn register_relation(book: &[u8], first: usize, second: usize) -> u32
+pub fn register_relation(book: &[u8], first: usize, second: usize) -> u32
     ensures value { result ≡ relation_of book.now first second }
     ensures meaning { (s : Sections) → reading book.now ≡ granted s → NumberMeans (roles_of s) (says s) first second result }
 {

@@ -1,5 +1,6 @@
 // The lines of a refusal, of yes and no, and of a listing, byte by byte.
 #![tactic(auto)]
+
 ghost use Rattle.std.specs.Prelude.{◌≡◌, IfOk, string_bytes};
 ghost use Rattle.lines.specs.Lines.{name_of_layer, line_of_denial, yes_line};
 ghost use Rattle.lines.specs.Listings.{both_digits, line_of_class, line_of_denied_entry, line_of_book};

@@ -1,5 +1,6 @@
 // The listing of a book: the class number of each of its entries.
 #![tactic(auto)]
+
 ghost use Rattle.std.specs.Prelude.{◌≡◌, ◌<◌, ◌≤◌, ◌++◌, IfOk, OnOk};
 ghost use Rattle.denial.specs.Denials.{granted};
 ghost use Rattle.book.specs.Sections.{Sections, says};

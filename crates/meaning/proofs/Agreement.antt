@@ -1,10 +1,10 @@
 -- Worlds that agree on what a book can speak of are alike to it.
-use Rattle.std.proofs.Common.{◌≡◌, ℕ, zero, suc, ◌<◌, Bool, true, not, ◌&&◌, ◌||◌, sym, refl, ap, ◌∙◌, subst, arith}
+use Rattle.std.proofs.Common.{◌≡◌, ℕ, zero, suc, ◌<◌, Bool, not, ◌&&◌, ◌||◌, sym, refl, ap, ◌∙◌, arith}
 use Rattle.meaning.specs.Bounded.{any, all}
 use Rattle.meaning.specs.Worlds.{Interpretation, Concept, denotes, deep, holds, Lower}
 use Rattle.meaning.specs.Orders.{RoleBox}
 use Rattle.meaning.specs.Books.{Book, Sound, Keeps}
-use Rattle.meaning.specs.Agreement.{Agree, Confined, Alike, AgreeingWorlds}
+use Rattle.meaning.specs.Agreement.{Agree, Confined, AgreeingWorlds}
 use Rattle.meaning.specs.declared.Concept.TheVariants.{Nothing, Everything, Name, Not, And, Or, Restriction}
 use Rattle.meaning.specs.declared.Quantifier.{Quantifier}
 use Rattle.meaning.specs.declared.Quantifier.TheVariants.{Exists, Forall, NoneOf}

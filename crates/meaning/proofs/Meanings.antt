@@ -1,5 +1,5 @@
 -- What an entry means does not depend on the depth, as long as it reaches the ground.
-use Rattle.std.proofs.Common.{◌≡◌, ℕ, zero, suc, ◌<◌, ◌≤◌, Bool, true, false, not, ◌&&◌, ◌||◌, sym, refl, ap, ◌∙◌, arith}
+use Rattle.std.proofs.Common.{◌≡◌, ℕ, zero, suc, ◌<◌, Bool, not, ◌&&◌, ◌||◌, refl, ap, ◌∙◌, arith}
 use Rattle.meaning.specs.Bounded.{any, all}
 use Rattle.meaning.specs.Worlds.{Interpretation, Concept, denotes, deep, holds, Lower, EntriesMean}
 use Rattle.meaning.specs.declared.Concept.TheVariants.{Nothing, Everything, Name, Not, And, Or, Restriction}

@@ -2,6 +2,7 @@
 // The definitions stand in specs/; here are the types that they share with the code, and the traits by which code asks
 // a world or a hierarchy. A trait's ghost members are its meaning, and code above is proved against them alone.
 #![tactic(auto)]
+
 ghost use Rattle.std.specs.Prelude.{◌≡◌, ℕ, Bool, ◌&&◌, nat_lt};
 ghost use Rattle.meaning.specs.Worlds.{Interpretation, Sized, EntriesMean};
 ghost use Rattle.meaning.specs.Orders.{Lawful};

@@ -1,8 +1,8 @@
 -- The search over the expansions by choice words and the seeds by entries is the search of the definition.
-use mathlib.Core.Path.{◌≡◌, refl, sym, ap, ◌∙◌, fun_ext, subst}
+use mathlib.Core.Path.{◌≡◌, refl, ap, ◌∙◌, fun_ext, subst}
 use mathlib.Core.Bool.{Bool, true, false, cond}
 use mathlib.Core.List.{List, [], ◌∷◌, ◌++◌}
-use Prim.Native.Nat.{ℕ, zero, suc, ◌-◌, ◌<◌, ◌≤◌}
+use Prim.Native.Nat.{ℕ, zero, suc, ◌<◌}
 use native.Mathlib.Nat.{sub-zero}
 use lib.Dec.{leb}
 use lib.ListN.{length}
@@ -11,13 +11,12 @@ use Rattle.tableau.specs.declared.Label.{Label}
 use Rattle.tableau.specs.declared.Obligation.{Obligation}
 use Rattle.tableau.specs.declared.Obligation.TheVariants.{Idle, Wants}
 use Rattle.tableau.specs.Labels.{any_contains}
-use Rattle.tableau.specs.Entries.{Table, LowerEntry}
+use Rattle.tableau.specs.Entries.{Table}
 use Rattle.tableau.specs.Expansions.{expansions}
 use Rattle.tableau.specs.Seeds.{obliged_at, seed_of}
-use Rattle.tableau.specs.Search.{Outcome, failed, full, stands, Searcher, or_else, and_then, reuse, pursue, meet_from, try_each, enter, explore}
+use Rattle.tableau.specs.Search.{full, stands, Searcher, or_else, and_then, reuse, pursue, meet_from, try_each, enter, explore}
 use Rattle.plan.specs.declared.Plan.{Plan}
 use Rattle.plan.specs.Meanings.{table_in, box_in}
-use Rattle.expand.specs.Choices.{from}
 use Rattle.expand.proofs.Choosing.{from_start}
 use Rattle.model.specs.Games.{game_in}
 use Rattle.successor.specs.Obligations.{seed_before, seeds_up, seeds_from}

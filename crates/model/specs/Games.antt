@@ -1,7 +1,5 @@
 -- The expansions and the seeds of a plan, as a search asks for them.
-use Rattle.std.specs.Prelude.{◌≡◌, ℕ, ◌≤◌}
 use Rattle.std.proofs.Common.{arith}
-use Rattle.tableau.specs.declared.Label.{Label}
 use Rattle.plan.specs.declared.Plan.{Plan}
 use Rattle.plan.specs.Meanings.{table_in, box_in}
 use Rattle.plan.proofs.Lowered.{plan_lower}

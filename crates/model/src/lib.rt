@@ -1,6 +1,7 @@
 // The search of a book's plan in lent nodes: the loop of the search with the plan's expansions and seeds, equal to the
 // search as a value.
 #![tactic(auto)]
+
 ghost use Rattle.std.specs.Prelude.{◌≡◌, [], length, replicate};
 ghost use Rattle.tableau.specs.Search.{explore};
 ghost use Rattle.plan.specs.Meanings.{table_in, box_in};

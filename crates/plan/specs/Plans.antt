@@ -1,5 +1,5 @@
 -- What the arrays of a plan say.
-use Rattle.std.specs.Prelude.{ℕ, zero, suc, ◌+◌, ◌<◌, Bool, true, ◌&&◌, List, nat_le, nat_lt, slice_index_or}
+use Rattle.std.specs.Prelude.{ℕ, ◌+◌, Bool, true, ◌&&◌, List, nat_le, nat_lt, slice_index_or}
 use Rattle.meaning.specs.Bounded.{all}
 use Rattle.meaning.specs.declared.Concept.TheVariants.{Nothing, Everything, Name, Not, And, Or, Restriction}
 use Rattle.tableau.specs.declared.Entry.{Entry}

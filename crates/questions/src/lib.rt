@@ -1,5 +1,6 @@
 // What a script asks of a book and of the world on a sheet.
 #![tactic(auto)]
+
 ghost use Rattle.std.specs.Prelude.{◌≡◌, ◌&&◌, nat_lt};
 ghost use Rattle.denial.specs.Denials.{answer, and_then, record_report, denial_report};
 ghost use Rattle.meaning.specs.Universal.{universal_size, universal_under, universal_passing};
@@ -28,6 +29,18 @@ pub enum Source {
     Told,
     ClosedUniversal,
     ToldUniversal,
+}
+
+impl Source {
+    pub fn parse(name: &str) -> Option<Source> {
+        match name {
+            "closed" => Some(Source::Closed),
+            "told" => Some(Source::Told),
+            "closed+universal" => Some(Source::ClosedUniversal),
+            "told+universal" => Some(Source::ToldUniversal),
+            _ => None,
+        }
+    }
 }
 
 // Whether the role r is below s.

@@ -1,11 +1,11 @@
 -- What asking comes to, from what is told of the search.
-use Rattle.std.proofs.Common.{◌≡◌, ℕ, zero, suc, ◌-◌, ◌<◌, ◌≤◌, Bool, true, false, List, length, get_or, take, sym, refl, ap, ◌∙◌, arith}
+use Rattle.std.proofs.Common.{◌≡◌, ℕ, zero, suc, ◌-◌, ◌<◌, ◌≤◌, true, false, List, get_or, take, sym, refl, ap, ◌∙◌, arith}
 use Rattle.std.proofs.lemmas.List.{get_or-take}
 use Rattle.tableau.specs.declared.Label.{Label}
 use Rattle.tableau.specs.Search.{Outcome, failed, full, stands}
 use Rattle.tableau.specs.Working.{seed_of_not, seed_of_one}
 use Rattle.runs.specs.Setups.{Setup, search_in, apart}
-use Rattle.runs.specs.Steps.{Reply, said, refusal, told_ask, asking}
+use Rattle.runs.specs.Steps.{said, refusal, told_ask, asking}
 use Rattle.register.specs.declared.searches.Trial.TheVariants.{World, NoWorld, NoRoom as NoRoomᵗ}
 use Rattle.register.specs.Registers.{trial_of}
 use Rattle.register.proofs.Telling.{is_full, is_failed, is_standing, from_seed}

@@ -1,12 +1,11 @@
 -- How an entry compares with a class, and where it belongs.
-use Rattle.std.proofs.Common.{◌≡◌, ℕ, suc, ◌+◌, ◌<◌, ◌≤◌, Bool, true, false, List, [], ◌∷◌, length, get_or, take, drop, sym, refl, ap, ◌∙◌, add-one, arith}
+use Rattle.std.proofs.Common.{◌≡◌, ℕ, suc, ◌+◌, ◌<◌, ◌≤◌, List, length, get_or, take, drop, sym, refl, ap, ◌∙◌, add-one, arith}
 use Rattle.std.proofs.lemmas.List.{drop_all, drop_more, get_or-take, length-take-le}
 use Rattle.tableau.specs.declared.Label.{Label}
 use Rattle.tableau.specs.Search.{Outcome, failed, full, stands}
 use Rattle.tableau.specs.Working.{seed_of_not, seed_of_one}
 use Rattle.runs.specs.declared.Compared.{Compared}
 use Rattle.runs.specs.declared.Compared.TheVariants.{Same, Other, Unknown}
-use Rattle.runs.specs.declared.Place.{Place}
 use Rattle.runs.specs.declared.Place.TheVariants.{Fits, New, NoRoom}
 use Rattle.runs.specs.Setups.{Setup, search_in}
 use Rattle.runs.specs.Steps.{by_second_outcome, by_first_outcome, compared, placed_by, placed, placed_first, placing}

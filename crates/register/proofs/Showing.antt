@@ -2,7 +2,7 @@
 use Rattle.std.proofs.Common.{◌≡◌, ℕ, zero, suc, ◌-◌, ◌<◌, ◌≤◌, Bool, true, false, cond, ◌&&◌, eqb, leb, List, [], length, get_or, take, sym, refl, ap, ◌∙◌, subst, arith}
 use lib.ListN.{length-map}
 use Rattle.std.proofs.lemmas.Bool.{and_parts, le-leb, eq-eqb, ne_eqb, cond-true, cond-false}
-use Rattle.denial.specs.Denials.{Answer, granted, denied, reported}
+use Rattle.denial.specs.Denials.{granted, denied, reported}
 use Rattle.denial.specs.declared.Layer.TheVariants.{Register}
 use Rattle.denial.specs.declared.Report.{Report}
 use Rattle.meaning.specs.Worlds.{Interpretation, Sized}
@@ -21,7 +21,7 @@ use Rattle.search.specs.declared.Answer.{Answer as Searched}
 use Rattle.search.specs.Nodes.{labels, label_of, Says}
 use Rattle.found.specs.Founds.{found_in, finding}
 use Rattle.model.proofs.Same.{find_some}
-use Rattle.runs.specs.Setups.{Setup, search_in, world_in, root_in, apart}
+use Rattle.runs.specs.Setups.{Setup, search_in, apart}
 use Rattle.runs.specs.Steps.{Reply, shown, refused, refusal, Showed, showed, showed_world, showed_second, showed_first, showing}
 use Rattle.register.specs.Registers.{setup_in}
 use Rattle.register.specs.Showing.{seed_of_apart, SomeNode}

@@ -1,5 +1,5 @@
 -- What a register holds and answers, as the definitions of a run speak of it.
-use Rattle.std.specs.Prelude.{ℕ, Bool, List, take, Ok, Err, Result}
+use Rattle.std.specs.Prelude.{ℕ, List, take, Ok, Err, Result}
 use Rattle.denial.specs.Denials.{denial_report}
 use Rattle.denial.specs.declared.Denial.{Denial}
 use Rattle.plan.specs.declared.Plan.{Plan}
@@ -7,7 +7,7 @@ use Rattle.plan.specs.Meanings.{table_in, box_in, plan_roles}
 use Rattle.tableau.specs.Search.{Outcome, failed, full, stands}
 use Rattle.search.specs.declared.Node.{Node}
 use Rattle.runs.specs.Setups.{Setup}
-use Rattle.runs.specs.Steps.{Reply, class, said, shown, refused, Done}
+use Rattle.runs.specs.Steps.{Reply, refused, Done}
 use Rattle.register.specs.declared.Register.{Register}
 use Rattle.register.specs.declared.searches.Trial.{Trial}
 use Rattle.register.specs.declared.searches.Trial.TheVariants.{World, NoWorld, NoRoom}

@@ -1,5 +1,5 @@
 -- What show answers.
-use Rattle.std.specs.Prelude.{ℕ, zero, suc, ◌-◌, ◌<◌, cond, List, ◌==◌, slice_index}
+use Rattle.std.specs.Prelude.{ℕ, ◌-◌, ◌<◌, cond, List, ◌==◌, slice_index}
 use Rattle.tableau.specs.declared.Label.{Label}
 use Rattle.tableau.specs.Working.{seed_of_not, seed_of_one}
 use Rattle.search.specs.declared.Answer.{Answer}

@@ -1,9 +1,9 @@
 -- The closure of told inclusions decides what chains of them say.
-use Rattle.std.proofs.Common.{◌≡◌, ℕ, ◌+◌, ◌*◌, ◌/◌, ◌<◌, ◌≤◌, Bool, true, false, ◌&&◌, ◌||◌, eqb, ltb, ◌⊎◌, List, length, get_or, Decides, sym, refl, subst, inl, inr, ⊎_elim, arith}
+use Rattle.std.proofs.Common.{◌≡◌, ℕ, ◌+◌, ◌*◌, ◌/◌, ◌<◌, Bool, true, false, ◌&&◌, eqb, List, length, get_or, Decides, sym, refl, subst, inl, inr, ⊎_elim, arith}
 use Rattle.std.proofs.lemmas.Bool.{and_parts, and_from, eqb-true, eq-eqb, cases_Bool}
 use Rattle.std.proofs.lemmas.Bool.Decides.{same_from_decides, Decides-at}
 use Rattle.words.specs.Sets.{has}
-use Rattle.meaning.specs.Chains.{Chain, reach, On}
+use Rattle.meaning.specs.Chains.{On}
 use Rattle.meaning.proofs.Tests.{any_some, any_from}
 use Rattle.meaning.proofs.Chains.{reach_sound, reach_complete, chain_ind}
 use Rattle.roles.specs.Told.{told, Inside}

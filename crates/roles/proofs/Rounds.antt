@@ -1,10 +1,10 @@
 -- Rounds over the pairs end at the set of what told inclusions lead to.
-use Rattle.std.proofs.Common.{◌≡◌, ℕ, zero, suc, ◌+◌, ◌*◌, ◌/◌, ◌^◌, ◌<◌, ◌≤◌, Bool, true, false, cond, ◌&&◌, ◌||◌, eqb, ◌⊎◌, List, length, get_or, Decides, sym, refl, ap, ◌∙◌, subst, inl, inr, ⊎_elim, add-one, arith}
-use lib.Bits.{bit_or, bit_and, or_add_and, and_le_r}
+use Rattle.std.proofs.Common.{◌≡◌, ℕ, zero, suc, ◌+◌, ◌*◌, ◌/◌, ◌^◌, ◌<◌, ◌≤◌, true, false, List, length, get_or, Decides, sym, refl, ap, ◌∙◌, subst, inr, ⊎_elim, add-one, arith}
+use lib.Bits.{bit_or, or_add_and, and_le_r}
 use Rattle.std.proofs.lemmas.Bool.{cases_eq, cond_both, cond-true, cond-false, or_cases, or_left, or_right, eqb-true, eq-eqb}
 use Rattle.words.specs.Sets.{has}
 use Rattle.words.proofs.Words.{has_or, has_single}
-use Rattle.meaning.specs.Chains.{Chain, one}
+use Rattle.meaning.specs.Chains.{one}
 use Rattle.meaning.proofs.Chains.{chain_join, chain_keeps}
 use Rattle.roles.specs.Told.{told}
 use Rattle.roles.specs.Closure.{Leads}

@@ -1,6 +1,7 @@
 // Hierarchies of roles: the told inclusions followed at each question, closure rows worked out at the start, and a layer
 // with one more role above all others.
 #![tactic(auto)]
+
 ghost use Rattle.roles.specs.Closure.{ClosureDecides};
 
 pub mod asked;

@@ -1,17 +1,16 @@
 -- What an ask and a show come to, on classes that are kept.
-use Rattle.std.proofs.Common.{◌≡◌, ℕ, zero, suc, ◌^◌, ◌<◌, ◌≤◌, Bool, true, false, cond, not, eqb, leb, ◌⊎◌, List, length, get_or, sym, refl, ap, ◌∙◌, subst, inl, inr, ⊎_elim, arith}
+use Rattle.std.proofs.Common.{◌≡◌, ℕ, zero, suc, ◌<◌, ◌≤◌, Bool, true, false, not, eqb, leb, ◌⊎◌, List, length, refl, ap, inl, inr, ⊎_elim, arith}
 use Rattle.std.proofs.lemmas.Bool.{cases_Bool, cond_both, leb-true, eqb-true, both_ways}
 use Rattle.denial.specs.declared.Report.{Report}
 use Rattle.meaning.specs.Orders.{RoleBox}
 use Rattle.meaning.specs.Books.{Book}
 use Rattle.tableau.specs.declared.Label.{Label}
 use Rattle.tableau.specs.Search.{Outcome, failed, full, stands}
-use Rattle.tableau.specs.Working.{width_of}
 use Rattle.tableau.specs.Promises.{Opens, found_world}
 use Rattle.sheet.specs.Sheets.{needed}
 use Rattle.drawing.specs.Drawings.{drawn_on}
 use Rattle.runs.specs.Setups.{setup, apart}
-use Rattle.runs.specs.Steps.{Reply, class, said, shown, refused, refusal, given, told_ask, asking, Showed, showed, showed_world, showed_second, showed_first, showing, ask_step, show_step}
+use Rattle.runs.specs.Steps.{Reply, class, said, shown, refused, refusal, given, told_ask, asking, Showed, showed_world, showed_second, showed_first, showing, ask_step, show_step}
 use Rattle.runs.proofs.Searching.{member, Apart, Under, apart_failed, apart_stood, apart_full}
 use Rattle.runs.proofs.Filing.{next_cases, not_false, Kept, RefusedRight}
 

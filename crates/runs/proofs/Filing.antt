@@ -1,12 +1,11 @@
 -- What a filing comes to, and what it keeps true of the classes.
-use Rattle.std.proofs.Common.{◌≡◌, ℕ, zero, suc, ◌+◌, ◌^◌, ◌<◌, ◌≤◌, Bool, true, false, cond, not, ltb, ◌⊎◌, List, [], ◌∷◌, ◌++◌, length, get_or, sym, refl, ap, ◌∙◌, subst, inl, inr, ⊎_elim, arith, length-append}
+use Rattle.std.proofs.Common.{◌≡◌, ℕ, zero, suc, ◌+◌, ◌^◌, ◌<◌, ◌≤◌, Bool, true, false, not, ltb, ◌⊎◌, List, [], ◌∷◌, ◌++◌, length, get_or, sym, refl, ◌∙◌, subst, inl, inr, ⊎_elim, arith, length-append}
 use lib.Seq.{get_or-append_seam}
 use Rattle.std.proofs.lemmas.List.{get_or_append_left}
 use Rattle.std.proofs.lemmas.Bool.{cases_lt, cond_both, ltb-true}
 use Rattle.denial.specs.declared.Report.{Report}
 use Rattle.meaning.specs.Orders.{RoleBox}
 use Rattle.meaning.specs.Books.{Book}
-use Rattle.tableau.specs.declared.Label.{Label}
 use Rattle.tableau.specs.Search.{Outcome, failed, full, stands}
 use Rattle.tableau.specs.Working.{width_of, seed_of_not, seed_of_one}
 use Rattle.tableau.specs.Promises.{Opens}
@@ -15,7 +14,7 @@ use Rattle.runs.specs.declared.Compared.TheVariants.{Same, Other, Unknown}
 use Rattle.runs.specs.declared.Place.{Place}
 use Rattle.runs.specs.declared.Place.TheVariants.{Fits, New, NoRoom}
 use Rattle.runs.specs.Setups.{setup, search_in}
-use Rattle.runs.specs.Steps.{Reply, class, said, shown, refused, refusal, most, by_second_outcome, by_first_outcome, compared, placed_by, placed, Filed, filed, added, filed_at, placed_first, placing, or_next, file_step}
+use Rattle.runs.specs.Steps.{Reply, class, said, shown, refused, refusal, most, by_second_outcome, by_first_outcome, compared, placed_by, placed, filed, filed_at, placed_first, placing, or_next, file_step}
 use Rattle.runs.specs.Runs.{Separated, Inseparable}
 use Rattle.runs.proofs.Searching.{Inhabited, not_failed, not_separated, not_full, one_failed, one_inhabited, one_full}
 

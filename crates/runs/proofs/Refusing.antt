@@ -1,5 +1,5 @@
 -- A call that is refused leaves the classes and the lent words as they were.
-use Rattle.std.proofs.Common.{◌≡◌, ℕ, suc, ◌+◌, Bool, cond, not, eqb, ltb, leb, List, [], ◌∷◌, ◌++◌, length, refl, arith}
+use Rattle.std.proofs.Common.{◌≡◌, ℕ, ◌+◌, not, eqb, ltb, leb, List, [], ◌∷◌, ◌++◌, length, refl, arith}
 use Rattle.std.proofs.lemmas.Bool.{cond_both}
 use Rattle.denial.specs.declared.Report.{Report}
 use Rattle.tableau.specs.declared.Label.{Label}
@@ -8,7 +8,7 @@ use Rattle.sheet.specs.Sheets.{needed}
 use Rattle.runs.specs.declared.Place.{Place}
 use Rattle.runs.specs.declared.Place.TheVariants.{Fits, New, NoRoom}
 use Rattle.runs.specs.Setups.{Setup, apart}
-use Rattle.runs.specs.Steps.{Call, file, ask, show, Reply, class, said, shown, refused, refusal, most, Filed, filed, filed_at, placing, Showed, showed, showed_world, showed_second, showed_first, showing, file_step, show_step, given}
+use Rattle.runs.specs.Steps.{file, ask, show, class, refused, refusal, most, Filed, filed, filed_at, placing, Showed, showed_world, showed_second, showed_first, showing, file_step, show_step, given}
 use Rattle.runs.specs.Runs.{RefusalsChangeNothing}
 use Rattle.runs.proofs.Filing.{next_cases}
 

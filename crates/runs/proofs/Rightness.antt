@@ -1,5 +1,5 @@
 -- Every run is right.
-use Rattle.std.proofs.Common.{◌≡◌, ℕ, zero, suc, ◌^◌, ◌<◌, ◌≤◌, Bool, true, false, ◌⊎◌, List, [], ◌∷◌, map, length, get_or, sym, refl, ap, ◌∙◌, subst, inl, inr, ⊎_elim, arith}
+use Rattle.std.proofs.Common.{◌≡◌, ℕ, zero, suc, ◌^◌, ◌<◌, ◌≤◌, Bool, true, false, List, [], ◌∷◌, map, length, get_or, sym, refl, ap, ◌∙◌, subst, inl, inr, ⊎_elim, arith}
 use Rattle.std.proofs.lemmas.Bool.{leb-true}
 use Rattle.denial.specs.declared.Report.{Report}
 use Rattle.meaning.specs.Worlds.{Interpretation, Sized, holds}
@@ -14,11 +14,11 @@ use Rattle.sheet.specs.Sheets.{written}
 use Rattle.drawing.specs.Drawings.{drawn_on, Drawn}
 use Rattle.drawing.proofs.Sheets.{drawing_right}
 use Rattle.runs.specs.Setups.{Setup, setup}
-use Rattle.runs.specs.Steps.{Call, file, ask, show, Reply, class, said, shown, refused, refusal, Done, step, given, file_step, ask_step, show_step}
+use Rattle.runs.specs.Steps.{Call, file, ask, show, Reply, class, said, shown, refused, Done, step, given, file_step, show_step}
 use Rattle.runs.specs.Runs.{Event, event, Run, history, RunsByCalls, In, Gave, of_class, Within, lent, Parts, ShownRight, Known, Right, EveryRunIsRight}
 use Rattle.runs.proofs.Searching.{member, Apart, Under}
-use Rattle.runs.proofs.Filing.{Kept, kept_none, Belongs, FiledRight, FileRight, RefusedRight, file_right}
-use Rattle.runs.proofs.Answering.{SaidRight, AskRight, ask_right, ShownAt, UnshownRight, ShowRight, show_right}
+use Rattle.runs.proofs.Filing.{Kept, kept_none, Belongs, FiledRight, FileRight, file_right}
+use Rattle.runs.proofs.Answering.{SaidRight, AskRight, ask_right, ShownAt, ShowRight, show_right}
 use Rattle.runs.proofs.Classes.{Extends, extends_long, extends_at, belongs_more, zero_none, none_zero, equal_inseparable, inseparable_equal}
 use Rattle.runs.proofs.Running.{final, Moment, moment, final_kept, class_members, class_gave}
 

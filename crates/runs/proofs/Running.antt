@@ -1,5 +1,5 @@
 -- Runs, call by call: the classes at each call, and the first entry for each number.
-use Rattle.std.proofs.Common.{◌≡◌, ℕ, zero, suc, ◌+◌, ◌<◌, ◌≤◌, Bool, true, false, cond, eqb, ◌⊎◌, List, [], ◌∷◌, ◌++◌, length, get_or, Some, None, Option, sym, refl, ap, ◌∙◌, subst, inl, inr, ⊎_elim, arith, length-append}
+use Rattle.std.proofs.Common.{◌≡◌, ℕ, zero, suc, ◌<◌, ◌≤◌, Bool, true, false, cond, eqb, List, [], ◌∷◌, ◌++◌, length, get_or, Some, None, Option, sym, refl, ap, ◌∙◌, subst, inl, inr, ⊎_elim, arith, length-append}
 use lib.Seq.{get_or-append_seam}
 use Rattle.std.proofs.lemmas.Bool.{cases_eq, eq-eqb, ne_eqb, eqb-true}
 use Rattle.meaning.specs.Bounded.{or_else}
@@ -12,7 +12,7 @@ use Rattle.runs.specs.Steps.{Call, file, ask, show, Reply, class, said, shown, r
 use Rattle.runs.specs.Runs.{Event, event, history, In, Gave, gave_number, filed_for, first_entry_for, in_entry, of_class}
 use Rattle.runs.proofs.Searching.{member}
 use Rattle.runs.proofs.Filing.{Kept, kept_none, FileRight, file_right}
-use Rattle.runs.proofs.Classes.{Extends, extends_same, extends_equal, extends_more, extends_long, extends_at}
+use Rattle.runs.proofs.Classes.{Extends, extends_same, extends_equal, extends_more, extends_at}
 
 -- the classes that a run leaves
 pub final : Setup → List ℕ → List Call → List ℕ

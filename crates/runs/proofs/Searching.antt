@@ -1,5 +1,5 @@
 -- What the searches of a register say of the worlds that keep the book.
-use Rattle.std.proofs.Common.{◌≡◌, ℕ, zero, suc, ◌-◌, ◌^◌, ◌<◌, ◌≤◌, Bool, true, false, leb, List, [], length, get_or, sym, refl, ap, ◌∙◌, subst, arith}
+use Rattle.std.proofs.Common.{◌≡◌, ℕ, zero, suc, ◌-◌, ◌^◌, ◌<◌, ◌≤◌, Bool, true, false, List, [], length, get_or, sym, refl, ap, ◌∙◌, arith}
 use Rattle.std.proofs.lemmas.Bool.{leb-true}
 use Rattle.meaning.specs.Worlds.{Interpretation, holds}
 use Rattle.meaning.specs.Orders.{RoleBox}
@@ -7,13 +7,13 @@ use Rattle.meaning.specs.Universal.{with_universal}
 use Rattle.meaning.specs.Books.{Book, Keeps}
 use Rattle.tableau.specs.declared.Label.{Label}
 use Rattle.tableau.specs.Labels.{empty, put}
-use Rattle.tableau.specs.Search.{Outcome, failed, full, stands, explore}
+use Rattle.tableau.specs.Search.{failed, full, stands, explore}
 use Rattle.tableau.specs.Working.{table_of, width_of, book_entry, everywhere_entry, rooted, seed_of_not, seed_of_one}
-use Rattle.tableau.specs.Promises.{Opens, search_from, found_world, Seed, Realised}
+use Rattle.tableau.specs.Promises.{Opens, search_from, found_world, Realised}
 use Rattle.tableau.proofs.Labelling.{put_in, put_keeps}
 use Rattle.tableau.proofs.Succeeding.{success_is_right}
 use Rattle.tableau.proofs.Deciding.{failure_is_right, room_suffices, seed_not_fits, seed_one_fits, satisfies_one, satisfies_not}
-use Rattle.runs.specs.Setups.{Setup, setup, root_in, search_in, apart}
+use Rattle.runs.specs.Setups.{setup, root_in, search_in, apart}
 use Rattle.runs.specs.Steps.{given}
 use Rattle.runs.specs.Runs.{Separated}
 

@@ -10,7 +10,7 @@ use Rattle.sheet.specs.Sheets.{sheet_of, written}
 use Rattle.tableau.specs.Working.{width_of}
 use Rattle.tableau.specs.Promises.{Opens, Empty}
 use Rattle.runs.specs.Setups.{Setup, setup}
-use Rattle.runs.specs.Steps.{Call, file, ask, show, Reply, class, said, shown, refused, refusal, Done, step}
+use Rattle.runs.specs.Steps.{Call, file, ask, show, Reply, class, said, shown, refused, Done, step}
 
 -- a call of a run, and what it came to
 pub record Event : Type 0 where

@@ -1,6 +1,7 @@
 // The register as a value, and the theorem over all its runs. There is no code here beyond the types that the definitions
 // share with the code of the register, and the functions that carry the theorems.
 #![tactic(auto)]
+
 ghost use Rattle.runs.specs.Examples.{RegisterExamples};
 ghost use Rattle.runs.specs.Runs.{RunsByCalls, EveryRunIsRight, RefusalsChangeNothing};
 

@@ -1,5 +1,6 @@
 // A script of calls on a book, one line each, and the answer to each call.
 #![tactic(auto)]
+
 mod answer;
 mod filed;
 mod session;

@@ -49,9 +49,9 @@ impl Session {
             Err(_) => Call::Bad,
         };
         let answered = match call {
-            Call::Book(hex) => self.start(hex)?,
+            Call::Book(hex) => self.open(hex)?,
             Call::Sheet(count, words) => self.draw(count, words)?,
-            Call::Open(base) => Some(self.open(base)?),
+            Call::Open(base) => Some(self.open_register(base)?),
             Call::File(..) | Call::Ask(..) | Call::Show(..) => Some(self.call(call)?),
             Call::Relation(first, second) => Some(self.relate(first, second)?),
             Call::Classes => Some(self.list()?),
@@ -65,7 +65,7 @@ impl Session {
     }
 
     // Starts afresh with the book whose bytes are given in hex; nothing is answered.
-    fn start(&mut self, hex: &str) -> Result<Option<String>, AllocError> {
+    fn open(&mut self, hex: &str) -> Result<Option<String>, AllocError> {
         match bytes_of(self.heap, hex)? {
             Some(bytes) => {
                 self.book = read(bytes.as_slice());
@@ -97,7 +97,7 @@ impl Session {
     }
 
     // Opens a register afresh.
-    fn open(&mut self, base: Base) -> Result<String, AllocError> {
+    fn open_register(&mut self, base: Base) -> Result<String, AllocError> {
         self.register = None;
         match filed::opened(self.book, base) {
             Ok(register) => {

@@ -1,5 +1,5 @@
 -- Each step as its contract asks it, over plain lists.
-use Rattle.std.proofs.Common.{◌≡◌, ℕ, zero, suc, ◌+◌, ◌-◌, ◌<◌, ◌≤◌, Bool, true, false, ◌≢◌, List, [], ◌∷◌, ◌++◌, length, get_or, take, drop, set, replicate, sym, refl, ap, ◌∙◌, ⊎_elim, arith, length-append, length-drop, length-set, length-take}
+use Rattle.std.proofs.Common.{◌≡◌, ℕ, ◌+◌, ◌-◌, ◌<◌, ◌≤◌, true, false, ◌≢◌, List, [], ◌∷◌, ◌++◌, length, get_or, take, drop, set, replicate, sym, ap, ◌∙◌, ⊎_elim, arith, length-append, length-drop, length-set}
 use borrow.Rule.Slice.PartMut.{put_mid, post_of}
 use Rattle.std.proofs.lemmas.List.{get_or-set_other, get_or-take, get_or-drop, get_or_append_left, get_or-append_right, get_or-replicate, length-take-le, length-replicate, ext_get_or}
 use Rattle.std.proofs.lemmas.Slice.{take-put_mid_below}
@@ -7,10 +7,9 @@ use Rattle.std.proofs.lemmas.Bool.{cases_lt}
 use Rattle.tableau.specs.declared.Label.{Label}
 use Rattle.tableau.specs.Labels.{any_contains}
 use Rattle.search.specs.declared.Node.{Node}
-use Rattle.search.specs.declared.Task.{Task}
 use Rattle.search.specs.declared.Task.TheVariants.{Go, Fail, Try}
 use Rattle.search.specs.Games.{Game, Bounded}
-use Rattle.search.specs.Nodes.{blank, labels, DoneFrom, BlankFrom, Fit, Went}
+use Rattle.search.specs.Nodes.{blank, labels, DoneFrom, BlankFrom, Went}
 use Rattle.search.proofs.Resume.{finish, again, fresh, exhausted, make, back, complete, go_on, descend}
 use Rattle.search.proofs.Digits.{lighter_next, lighter_done, falls_write, falls_back, falls_none, falls_make}
 

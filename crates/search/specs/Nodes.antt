@@ -1,5 +1,5 @@
 -- The nodes of a search: what they stand for, when they are fit for a task, and what a step makes of them.
-use Rattle.std.specs.Prelude.{◌≡◌, ℕ, zero, suc, ◌+◌, ◌*◌, ◌^◌, ◌<◌, ◌≤◌, Bool, true, false, cond, List, [], ◌∷◌, ◌++◌, map, length, get_or, take, Some, None, Option, ◌==◌, nat_lt, slice_index_or}
+use Rattle.std.specs.Prelude.{◌≡◌, ℕ, zero, suc, ◌+◌, ◌*◌, ◌^◌, ◌<◌, ◌≤◌, true, false, cond, List, [], ◌∷◌, ◌++◌, map, length, get_or, take, Some, None, Option, ◌==◌, nat_lt, slice_index_or}
 use Rattle.tableau.specs.declared.Label.{Label}
 use Rattle.tableau.specs.Labels.{any_contains, lowest}
 use Rattle.tableau.specs.Search.{Outcome, failed, full, stands, Searcher, or_else, and_then}

@@ -1,5 +1,6 @@
 // The search for a world, in nodes that the caller lends: one loop, and no recursion.
 #![tactic(auto)]
+
 ghost use Rattle.std.specs.Prelude.{◌≡◌, ℕ, ◌<◌, ◌≤◌, [], length, replicate};
 ghost use Rattle.tableau.specs.Labels.{contains};
 ghost use Rattle.search.specs.Games.{Game, Bounded, Leads, explore_by, told};

@@ -1,5 +1,5 @@
 -- A rule of a book that was read, against the sets of its entries.
-use Rattle.std.proofs.Common.{◌≡◌, ℕ, ◌<◌, Bool, true, List, get_or, Decides, sym, ap, ◌∙◌, subst, arith}
+use Rattle.std.proofs.Common.{◌≡◌, ℕ, ◌<◌, Bool, List, get_or, Decides, ap, subst, arith}
 use Rattle.words.specs.Sets.{set_of, Within}
 use Rattle.meaning.specs.Worlds.{Interpretation, holds}
 use Rattle.meaning.specs.Books.{Obeys}

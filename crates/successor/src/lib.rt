@@ -1,5 +1,6 @@
 // The obligations of a label, one after another, each with the seed of the successor that it asks for.
 #![tactic(auto)]
+
 ghost use Rattle.std.specs.Prelude.{◌≡◌, ◌+◌, ◌<◌, [], ◌∷◌, MatchOption};
 ghost use Rattle.meaning.specs.declared.Concept.TheVariants.{Restriction};
 ghost use Rattle.tableau.specs.declared.Entry.TheVariants.{Plain};

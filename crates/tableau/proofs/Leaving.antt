@@ -12,7 +12,7 @@ use Rattle.tableau.specs.Labels.{empty, contains, any_contains}
 use Rattle.tableau.specs.Entries.{Table, LowerEntry}
 use Rattle.tableau.specs.Expansions.{expansions}
 use Rattle.tableau.specs.Seeds.{obliged_at, seed_of}
-use Rattle.tableau.specs.Search.{full, stands, Searcher, reuse, pursue, meet_from, try_each, enter, explore}
+use Rattle.tableau.specs.Search.{stands, Searcher, reuse, pursue, meet_from, try_each, enter, explore}
 use Rattle.tableau.proofs.Tests.{never}
 use Rattle.tableau.proofs.Labelling.{Holds, contains_from, any_grows, any_at}
 use Rattle.tableau.proofs.Outcomes.{then_cases, else_cases}

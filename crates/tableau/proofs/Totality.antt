@@ -1,17 +1,13 @@
 -- A world that keeps a book, with the universal role joining every pair, follows the hierarchy with that role and satisfies
 -- *book* and *everywhere*; and the concept entries mean in it what they meant.
-use Rattle.std.proofs.Common.{◌≡◌, ℕ, zero, suc, ◌+◌, ◌<◌, Bool, true, cond, not, ◌&&◌, ◌||◌, eqb, sym, refl, ap, ◌∙◌, ⊎_elim, arith}
+use Rattle.std.proofs.Common.{◌≡◌, ℕ, zero, suc, ◌+◌, ◌<◌, Bool, true, cond, not, eqb, sym, refl, ap, ◌∙◌, ⊎_elim, arith}
 use Rattle.std.proofs.lemmas.Bool.{or_right, cond-true, cond-false, eq-eqb, ne_eqb}
-use Rattle.meaning.specs.Worlds.{Interpretation, denotes, deep, holds}
+use Rattle.meaning.specs.Worlds.{Interpretation, deep, holds}
 use Rattle.meaning.specs.Books.{Book, Keeps}
 use Rattle.meaning.specs.Orders.{RoleBox}
 use Rattle.meaning.specs.Universal.{universal_cases, with_universal}
-use Rattle.meaning.specs.declared.Concept.{Concept}
-use Rattle.meaning.specs.declared.Concept.TheVariants.{Nothing, Everything, Name, Not, And, Or, Restriction}
-use Rattle.meaning.specs.declared.Quantifier.{Quantifier}
-use Rattle.meaning.specs.declared.Quantifier.TheVariants.{Exists, Forall, NoneOf}
 use Rattle.meaning.proofs.Tests.{all_from}
-use Rattle.meaning.proofs.Meanings.{any_same, all_same, denotes_same}
+use Rattle.meaning.proofs.Meanings.{denotes_same}
 use Rattle.tableau.specs.declared.Label.{Label}
 use Rattle.tableau.specs.Working.{plain_of, book_entry, everywhere_entry, entry_of, rooted}
 use Rattle.tableau.specs.Promises.{Opens, Satisfies, Seed}

@@ -1,5 +1,5 @@
 -- Working entries, and what they mean in a world.
-use Rattle.std.specs.Prelude.{◌≡◌, ℕ, zero, suc, ◌+◌, ◌<◌, ◌≤◌, Bool, true, false, not, ◌&&◌, ◌||◌}
+use Rattle.std.specs.Prelude.{◌≡◌, ℕ, zero, suc, ◌+◌, ◌<◌, ◌≤◌, Bool, true, false, not, ◌||◌}
 use Rattle.meaning.specs.Bounded.{all}
 use Rattle.meaning.specs.Worlds.{Interpretation, denotes, Lower}
 use Rattle.meaning.specs.Orders.{Lawful, RoleBox}

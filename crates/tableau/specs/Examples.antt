@@ -1,5 +1,5 @@
 -- Two small books, and what the search makes of their entries.
-use Rattle.std.specs.Prelude.{◌≡◌, ℕ, Bool, true, false, ◌&&◌, ◌||◌, List, [], ◌∷◌, ◌==◌, nat_lt, slice_index_or}
+use Rattle.std.specs.Prelude.{◌≡◌, ℕ, true, false, ◌&&◌, ◌||◌, [], ◌∷◌, ◌==◌, nat_lt, slice_index_or}
 use Rattle.meaning.specs.Books.{Book}
 use Rattle.meaning.specs.Orders.{RoleBox}
 use Rattle.meaning.specs.declared.Concept.TheVariants.{Nothing, Name, Not, And, Restriction}

@@ -1,5 +1,5 @@
 -- What a search decides.
-use Rattle.std.specs.Prelude.{◌≡◌, ℕ, ◌^◌, ◌<◌, ◌≤◌, Bool, true, false, List, [], ◌++◌, length, ◌≢◌, slice_index_or}
+use Rattle.std.specs.Prelude.{◌≡◌, ℕ, ◌^◌, ◌<◌, ◌≤◌, Bool, true, List, [], ◌++◌, length, ◌≢◌, slice_index_or}
 use Rattle.meaning.specs.Worlds.{Interpretation, holds}
 use Rattle.meaning.specs.Orders.{RoleBox}
 use Rattle.meaning.specs.Universal.{with_universal}

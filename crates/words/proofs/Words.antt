@@ -1,10 +1,10 @@
 -- Laws of membership in a word, from the laws of bits and halves.
-use Rattle.std.proofs.Common.{◌≡◌, ℕ, zero, suc, ◌+◌, ◌-◌, ◌*◌, ◌/◌, ◌%◌, ◌^◌, ◌<◌, ◌≤◌, min, max, Bool, true, false, cond, not, ◌&&◌, ◌||◌, eqb, ltb, leb, ◌⊎◌, sym, refl, ap, ◌∙◌, subst, inl, inr, ⊎_elim, add-suc, pow-suc, div-one, add-one, one-add, arith, pow_mono}
-use lib.Bits.{bit_and, bit_or, and_shr, or_shr, and_step, or_step, and_mask, and_lt, or_shifted}
+use Rattle.std.proofs.Common.{◌≡◌, ℕ, zero, suc, ◌+◌, ◌-◌, ◌*◌, ◌/◌, ◌%◌, ◌^◌, ◌<◌, ◌≤◌, min, max, Bool, true, false, cond, not, ◌&&◌, ◌||◌, eqb, ltb, sym, refl, ap, ◌∙◌, subst, ⊎_elim, pow-suc, div-one, one-add, arith, pow_mono}
+use lib.Bits.{bit_and, bit_or, and_step, or_step, and_mask, and_lt, or_shifted}
 use lib.Count.{count_leading_zeros, count_trailing_zeros, under}
 use Rattle.std.proofs.lemmas.Nat.{shr-shr, pow_pos, leading_top}
 use Rattle.std.proofs.lemmas.Bool.Decides.{nat_tests}
-use Rattle.std.proofs.lemmas.Bool.{eqb-true, eqb-false, eq-eqb, ne_eqb, cases_Bool, cases_eq, cases_lt, and_parts, lt-ltb, le-ltb}
+use Rattle.std.proofs.lemmas.Bool.{eqb-true, eq-eqb, ne_eqb, cases_eq, and_parts, le-ltb}
 use Rattle.words.specs.Sets.{has, Within, Disjoint, set_of, Comprehends}
 
 pub has_test : (w k : ℕ) → eqb (bit_and (w / 2 ^ k) 1) 1 ≡ has w k

@@ -1,5 +1,5 @@
 -- A 64-bit word as a set of the numbers 0 to 63.
-use Rattle.std.specs.Prelude.{◌≡◌, ℕ, zero, suc, ◌+◌, ◌/◌, ◌%◌, ◌^◌, ◌<◌, ◌≤◌, Bool, true, false, cond, ◌&&◌, ◌==◌, nat_lt}
+use Rattle.std.specs.Prelude.{◌≡◌, ℕ, zero, suc, ◌+◌, ◌/◌, ◌%◌, ◌^◌, ◌<◌, Bool, true, false, cond, ◌&&◌, ◌==◌, nat_lt}
 
 -- k is in the set that the word w stands for: bit k of w is 1. A number past the last bit is in no word.
 unfoldable pub has : ℕ → ℕ → Bool

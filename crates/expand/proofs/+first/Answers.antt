@@ -1,4 +1,4 @@
-use Rattle.std.proofs.Common.{◌≡◌, suc, ◌+◌, [], sym, refl, ◌∙◌, arith}
+use Rattle.std.proofs.Common.{◌≡◌, suc, ◌+◌, [], refl, ◌∙◌, arith}
 use Rattle.plan.specs.Meanings.{table_in}
 use Rattle.plan.proofs.Lowered.{plan_lower}
 use Rattle.expand.specs.Choices.{from}

@@ -1,6 +1,6 @@
 use Rattle.std.proofs.Common.{suc, sym, arith}
 use Rattle.plan.specs.Meanings.{table_in}
-use Rattle.expand.proofs.Running.{along_self, along_free, along_dead, along_one}
+use Rattle.expand.proofs.Running.{along_free, along_dead, along_one}
 use Rattle.expand.proofs.descend.Goals as goal
 
 pub returns-then-clashes : goal.returns-then-clashes

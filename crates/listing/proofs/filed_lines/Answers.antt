@@ -1,4 +1,4 @@
-use Rattle.std.proofs.Common.{◌≡◌, ◌++◌, vec_items, ap, ◌∙◌, arith}
+use Rattle.std.proofs.Common.{◌++◌, vec_items, ap, ◌∙◌}
 use Rattle.runs.specs.Runs.{history}
 use Rattle.register.specs.Registers.{setup_of, classes_of}
 use Rattle.listing.specs.Listings.{filings, lines_of}

@@ -1,4 +1,4 @@
-use Rattle.std.proofs.Common.{◌≡◌, length, take, drop, sym, ap, arith}
+use Rattle.std.proofs.Common.{length, sym, ap, arith}
 use native.Mathlib.Nat.{sub-zero}
 use Rattle.search.specs.Games.{told}
 use Rattle.search.proofs.Steps.{all_blank, blank_front}

@@ -1,5 +1,5 @@
-use Rattle.std.proofs.Common.{◌≡◌, ℕ, ◌-◌, ◌^◌, ◌<◌, ltb, sym, ap, ◌∙◌, arith}
-use Rattle.std.proofs.lemmas.Nat.{one_shl, pow_pos}
+use Rattle.std.proofs.Common.{◌≡◌, ◌-◌, ◌^◌, ◌<◌, ltb, sym, ap, ◌∙◌, arith}
+use Rattle.std.proofs.lemmas.Nat.{one_shl}
 use Rattle.words.specs.Sets.{has}
 use Rattle.words.proofs.Words.{has_below}
 use Rattle.words.proofs.below.Goals as goal

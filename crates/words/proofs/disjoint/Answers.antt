@@ -1,4 +1,4 @@
-use Rattle.std.proofs.Common.{◌≡◌, Bool, eqb, Decides, sym, ap, subst}
+use Rattle.std.proofs.Common.{Bool, eqb, Decides, sym, ap, subst}
 use Rattle.words.specs.Sets.{Disjoint}
 use Rattle.words.proofs.Words.{disjoint_to, disjoint_from}
 use Rattle.words.proofs.disjoint.Goals as goal

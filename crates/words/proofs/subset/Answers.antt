@@ -1,4 +1,4 @@
-use Rattle.std.proofs.Common.{◌≡◌, Bool, eqb, Decides, sym, ap, subst}
+use Rattle.std.proofs.Common.{Bool, eqb, Decides, sym, ap, subst}
 use Rattle.words.specs.Sets.{Within}
 use Rattle.words.proofs.Words.{subset_to, subset_from}
 use Rattle.words.proofs.subset.Goals as goal

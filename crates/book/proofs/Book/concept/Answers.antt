@@ -1,4 +1,4 @@
-use Rattle.std.proofs.Common.{◌≡◌, ℕ, ◌+◌, ◌*◌, ◌/◌, ◌<◌, ◌≤◌, length, get_or, take, sym, refl, ap, ◌∙◌, arith}
+use Rattle.std.proofs.Common.{◌+◌, ◌*◌, ◌<◌, ◌≤◌, length, get_or, sym, ap, arith}
 use Rattle.std.proofs.lemmas.List.{get_or_past, get_or-take}
 use Rattle.book.specs.Sections.{decode}
 use Rattle.book.specs.Views.{view}

@@ -1,4 +1,4 @@
-use Rattle.std.proofs.Common.{◌≡◌, ℕ, ◌+◌, ◌*◌, ◌/◌, ◌<◌, ◌≤◌, true, false, not, eqb, ltb, length, get_or, sym, ap, ◌∙◌, arith}
+use Rattle.std.proofs.Common.{◌/◌, not, length, sym, ap, ◌∙◌, arith}
 use Rattle.meaning.proofs.Firsts.{first_some, first_none}
 use Rattle.book.specs.Records.{unfit}
 use Rattle.book.proofs.read.first_unfit.Goals as goal

@@ -1,6 +1,6 @@
-use Rattle.std.proofs.Common.{◌≡◌, length, sym, ap, ◌∙◌, arith}
+use Rattle.std.proofs.Common.{length, ap, ◌∙◌}
 use Rattle.std.proofs.lemmas.Result.{err_from_is_err_and, IfOk-from_err}
-use Rattle.denial.specs.Denials.{Answer, granted, denied, answer, and_then, record_report}
+use Rattle.denial.specs.Denials.{granted, denied, answer, and_then, record_report}
 use Rattle.book.specs.Views.{view, sections}
 use Rattle.book.proofs.Soundness.{book_sound}
 use Rattle.book.proofs.Checking.{reading_as, sections_are}

@@ -1,4 +1,4 @@
-use Rattle.std.proofs.Common.{◌≡◌, length, sym, ap, ◌∙◌, subst, arith}
+use Rattle.std.proofs.Common.{length, sym, ap, ◌∙◌, subst, arith}
 use Rattle.book.specs.Layouts.{Laid}
 use Rattle.denial.specs.Denials.{granted}
 use Rattle.book.proofs.Layouting.{laying_short, laying_long, laying_count, laying_place, laying_good, laid, layout_is}

@@ -1,4 +1,4 @@
-use Rattle.std.proofs.Common.{◌≡◌, ◌+◌, ◌-◌, ◌*◌, length, ap, ◌∙◌, add_assoc}
+use Rattle.std.proofs.Common.{◌-◌, ◌*◌, length, ap, ◌∙◌, add_assoc}
 use Rattle.book.specs.Layouts.{number16, section_from}
 use Rattle.book.proofs.trailer.section_at.Goals as goal
 

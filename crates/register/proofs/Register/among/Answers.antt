@@ -1,9 +1,7 @@
-use Rattle.std.proofs.Common.{◌≡◌, ◌+◌, length, get_or, replicate, sym, refl, ap, ◌∙◌, subst, arith}
+use Rattle.std.proofs.Common.{◌≡◌, ◌+◌, length, replicate, sym, refl, ap, ◌∙◌, subst, arith}
 use Rattle.search.specs.Nodes.{blank}
-use Rattle.runs.specs.declared.Compared.{Compared}
 use Rattle.runs.specs.declared.Compared.TheVariants.{Same, Other, Unknown}
-use Rattle.runs.specs.Setups.{Setup}
-use Rattle.runs.specs.Steps.{compared, placed_by, placed}
+use Rattle.runs.specs.Steps.{placed}
 use Rattle.register.specs.Registers.{setup_of, classes_of}
 use Rattle.register.proofs.Placing.{FromClass, at_class, past_classes}
 use Rattle.register.proofs.Register.among.Goals as goal

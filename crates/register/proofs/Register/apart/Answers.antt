@@ -1,4 +1,4 @@
-use Rattle.std.proofs.Common.{◌≡◌, [], length, sym, ap, ◌∙◌, subst, arith}
+use Rattle.std.proofs.Common.{[], length, sym, ap, ◌∙◌, subst, arith}
 use Rattle.tableau.specs.Search.{explore}
 use Rattle.plan.specs.Meanings.{table_in, box_in}
 use Rattle.search.specs.Nodes.{Says}

@@ -1,4 +1,4 @@
-use Rattle.std.proofs.Common.{◌≡◌, length, replicate, sym, ap, ◌∙◌, subst, arith}
+use Rattle.std.proofs.Common.{◌≡◌, length, replicate, ap, ◌∙◌, arith}
 use Rattle.search.specs.Nodes.{blank}
 use Rattle.register.proofs.Telling.{told_at}
 use Rattle.register.specs.Registers.{setup_of}

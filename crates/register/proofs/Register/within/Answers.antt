@@ -1,4 +1,4 @@
-use Rattle.std.proofs.Common.{◌≡◌, length, arith}
+use Rattle.std.proofs.Common.{length, arith}
 use Rattle.register.specs.Registers.{setup_of, classes_of}
 use Rattle.register.proofs.Asking.{zero_within, not_in_zero, asked_full, asked_failed, asked_standing}
 use Rattle.register.proofs.Register.within.Goals as goal

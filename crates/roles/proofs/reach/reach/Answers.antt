@@ -1,7 +1,6 @@
-use Rattle.std.proofs.Common.{◌≡◌, ℕ, ◌/◌, ◌≤◌, true, length, sym, refl, ap, ◌∙◌, arith}
+use Rattle.std.proofs.Common.{◌/◌, length, sym, ap, ◌∙◌, arith}
 use Rattle.words.specs.Sets.{has}
 use Rattle.roles.specs.Closure.{Leads}
-use Rattle.roles.specs.Rounds.{round_to}
 use Rattle.roles.proofs.Rounds.{round_above, round_keeps, round_in, round_ends, leads_step}
 use Rattle.roles.proofs.reach.reach.Goals as goal
 

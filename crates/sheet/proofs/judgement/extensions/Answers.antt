@@ -1,13 +1,12 @@
 use Rattle.std.proofs.Common.{◌<◌, get_or, sym, ap, ◌∙◌, subst, arith}
 use Rattle.words.specs.Sets.{has, set_of}
 use Rattle.meaning.specs.Worlds.{denotes, Lower}
-use Rattle.meaning.specs.declared.Concept.{Concept}
 use Rattle.book.specs.Sections.{says}
 use Rattle.book.specs.Views.{view}
 use Rattle.sheet.specs.Judgements.{Asked}
 use Rattle.sheet.proofs.Books.{asked}
 use Rattle.book.proofs.Soundness.{book_sound}
-use Rattle.sheet.proofs.Extending.{Filled, lower_more, filled_more, filled_none}
+use Rattle.sheet.proofs.Extending.{lower_more, filled_more, filled_none}
 use Rattle.sheet.proofs.judgement.extensions.Goals as goal
 
 pub loop-i-init : goal.loop-i-init

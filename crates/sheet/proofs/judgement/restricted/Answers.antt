@@ -1,4 +1,4 @@
-use Rattle.std.proofs.Common.{◌<◌, ◌∙◌, arith}
+use Rattle.std.proofs.Common.{◌∙◌}
 use Rattle.words.specs.Sets.{has}
 use Rattle.meaning.specs.Worlds.{denotes}
 use Rattle.meaning.specs.declared.Concept.TheVariants.{Restriction}

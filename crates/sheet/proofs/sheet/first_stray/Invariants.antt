@@ -1,4 +1,4 @@
-use Rattle.std.proofs.Common.{ℕ, ◌+◌, get_or}
+use Rattle.std.proofs.Common.{◌+◌, get_or}
 use Rattle.meaning.proofs.Firsts.{Clear}
 use Rattle.sheet.specs.Sheets.{strays}
 use Rattle.sheet.proofs.sheet.first_stray.Given as goal

@@ -1,4 +1,4 @@
-use Rattle.std.proofs.Common.{◌≡◌, not, eqb, ap, ◌∙◌}
+use Rattle.std.proofs.Common.{not, eqb, ap, ◌∙◌}
 use lib.Bits.{bit_and}
 use Rattle.sheet.proofs.Strays.{kept_below}
 use Rattle.sheet.proofs.sheet.is_stray.Goals as goal

@@ -1,5 +1,4 @@
-use Rattle.std.proofs.Common.{◌≡◌, sym, ap, ◌∙◌}
-use Rattle.book.specs.Views.{view}
+use Rattle.std.proofs.Common.{sym, ap, ◌∙◌}
 use Rattle.book.specs.Pieces.{pieces_from_roles}
 use Rattle.book.proofs.Layouting.{laid_from}
 use Rattle.book.proofs.Tiling.{tiles, parts_of_read, parts_of_refused, unlaid}

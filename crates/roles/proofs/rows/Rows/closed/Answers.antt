@@ -12,7 +12,7 @@ invariant_of-result c =
     let n = length c.roles-roles.result.now in
     let pairs = c.pairs.result.now in
     let few = c.roles-roles.ensures.few in
-    record { few = few; law = ∣ lawful_like n (related c.closure_rows.result) (closure n pairs) c.closure_rows.ensures (closure_law n pairs few) ∣₁; }
+    record { few = few; law = ∣ lawful_like n (related c.closure_rows.result) (closure n pairs) c.closure_rows.ensures (closure_law n pairs few) ∣₁ }
 
 pub returns : goal.returns
 returns c =

@@ -1,4 +1,4 @@
-use Rattle.std.proofs.Common.{◌≡◌, ◌<◌, false, length, ◌∙◌, arith}
+use Rattle.std.proofs.Common.{◌≡◌, false, length, ◌∙◌, arith}
 use Rattle.roles.specs.Closure.{closure}
 use Rattle.roles.proofs.Closures.{row_is, closure_out, closure_told}
 use Rattle.roles.proofs.told.ToldOrder.below.Goals as goal
