@@ -1,6 +1,7 @@
 // The worked examples of the search and of the register, run in lent nodes; the same facts are proved about the definitions
 // in `tableau` and `runs`.
 #![tactic(auto)]
+
 #[cfg(test)]
 mod registers;
 

@@ -1,6 +1,7 @@
 // What a program in C calls to time the layers of the search: each call makes the plan of a book once, and then does one
 // thing over and over.
 #![tactic(auto)]
+
 ghost use Rattle.std.specs.Prelude.{◌≡◌, [], min, length};
 ghost use Rattle.tableau.specs.Expansions.{expansions};
 ghost use Rattle.tableau.specs.Search.{explore};

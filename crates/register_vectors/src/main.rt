@@ -1,5 +1,6 @@
 // Runs the scripts of test vectors in `stdin`; what it writes must be `stdout`.
 #![tactic(auto)]
+
 use std::io;
 
 fn main(rt: HostRuntime) -> io::Result<()> {
