@@ -153,7 +153,7 @@ module _ (p : Plan) (e : ℕ) (nodes : List Node) (side : ℕ) (words : List ℕ
 module _ (S : Setup) (cs : List ℕ) (a b n : ℕ) (words : List ℕ) where
   pub first_stood : (ls : List Label) → apart S cs a b n ≡ stands ls → showed_world S words 1 ls ≡ showing S cs a b n words
   unfolding showing
-  first_stood ls e = sym (ap (λ o. showed_first S a words o (λ u. apart S cs b a n)) e)
+  first_stood standing e = sym (ap (λ o. showed_first S a words o (λ u. apart S cs b a n)) e)
 
   pub first_full : apart S cs a b n ≡ full → showed (refusal 15 a) words ≡ showing S cs a b n words
   unfolding showing
