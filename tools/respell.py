@@ -27,8 +27,8 @@ CHOSEN = {
     "propagatedOf": "propagated_list", "sectionAt": "section_from", "seedApart": "seed_of_apart", "tellEntry": "told_by_entry",
     "tellOn": "told_further", "tellSigns": "told_by_signs", "tellPropagated": "told_propagated", "withRole": "with_other_role",
 }
-# declared several to a line
-MORE = ["ofPairs", "ofConcepts", "ofRules", "ofNote", "ofTrailer"]
+# declared several to a line, or by a name that begins like a word of the language
+MORE = ["ofPairs", "ofConcepts", "ofRules", "ofNote", "ofTrailer", "in-book", "in-branch", "in-calm", "search-same"]
 # not ours: the toolchain's words that a lemma file declares by the same name
 KEPT = set()
 WORD = r"[^\W\d][\w']*(?:-[\w']+)*"

@@ -49,26 +49,26 @@ module _ (H : RoleBox) (K : Book) (P : Opens H K) where
       ap (λ k. put true k (put true (width_of H K - 2) s)) last ∙ ap (λ k. put true (everywhere_entry H K) (put true k s)) other
 
   -- the register's search is the one of the theorems
-  search-same : (s : Label) (n : ℕ) → search_from H K s n ≡ search_in (setup H K) s n
-  search-same s n = sym (ap (explore (with_universal H) (table_of H K) n n []) (root_same s))
+  search_same : (s : Label) (n : ℕ) → search_from H K s n ≡ search_in (setup H K) s n
+  search_same s n = sym (ap (explore (with_universal H) (table_of H K) n n []) (root_same s))
 
   -- "a not b" fails: no world holds an individual of a outside b
   pub not_failed : (a b n : ℕ) → a < K.entries → b < K.entries → search_in (setup H K) (seed_of_not a b) n ≡ failed → Separated H K a b → ⊥
   not_failed a b n l m e s =
-      failure_is_right H K P (seed_of_not a b) (seed_not_fits K a b l m) n (search-same (seed_of_not a b) n ∙ e) s.world s.keeps s.individual s.there
+      failure_is_right H K P (seed_of_not a b) (seed_not_fits K a b l m) n (search_same (seed_of_not a b) n ∙ e) s.world s.keeps s.individual s.there
       (satisfies_not K s.world s.individual a b s.inside s.outside)
 
   -- "a" fails: no world has an individual in a
   pub one_failed : (a n : ℕ) → a < K.entries → search_in (setup H K) (seed_of_one a) n ≡ failed → Inhabited H K a → ⊥
   one_failed a n l e s =
-      failure_is_right H K P (seed_of_one a) (seed_one_fits K a l) n (search-same (seed_of_one a) n ∙ e) s.world s.keeps s.individual s.there
+      failure_is_right H K P (seed_of_one a) (seed_one_fits K a l) n (search_same (seed_of_one a) n ∙ e) s.world s.keeps s.individual s.there
       (satisfies_one K s.world s.individual a s.inside)
 
   not_stood : (a b n : ℕ) → a < K.entries → b < K.entries → (ls : List Label) → search_in (setup H K) (seed_of_not a b) n ≡ stands ls → Realised H K (seed_of_not a b) ls
-  not_stood a b n l m ls e = success_is_right H K P (seed_of_not a b) (seed_not_fits K a b l m) n ls (search-same (seed_of_not a b) n ∙ e)
+  not_stood a b n l m ls e = success_is_right H K P (seed_of_not a b) (seed_not_fits K a b l m) n ls (search_same (seed_of_not a b) n ∙ e)
 
   one_stood : (a n : ℕ) → a < K.entries → (ls : List Label) → search_in (setup H K) (seed_of_one a) n ≡ stands ls → Realised H K (seed_of_one a) ls
-  one_stood a n l ls e = success_is_right H K P (seed_of_one a) (seed_one_fits K a l) n ls (search-same (seed_of_one a) n ∙ e)
+  one_stood a n l ls e = success_is_right H K P (seed_of_one a) (seed_one_fits K a l) n ls (search_same (seed_of_one a) n ∙ e)
 
   not_inside : (a b : ℕ) (ls : List Label) → Realised H K (seed_of_not a b) ls → holds (found_world H K ls) K.concept a 0 ≡ true
   not_inside a b ls r = r.satisfies true a (put_keeps false b (put true a empty) true a (put_in true a empty))
@@ -90,10 +90,10 @@ module _ (H : RoleBox) (K : Book) (P : Opens H K) where
 
   -- with 3 ^ w nodes there is room
   pub not_full : (a b n : ℕ) → a < K.entries → b < K.entries → 3 ^ width_of H K ≤ n → search_in (setup H K) (seed_of_not a b) n ≡ full → ⊥
-  not_full a b n l m room e = (room_suffices H K P (seed_of_not a b) (seed_not_fits K a b l m) n).enough room (search-same (seed_of_not a b) n ∙ e)
+  not_full a b n l m room e = (room_suffices H K P (seed_of_not a b) (seed_not_fits K a b l m) n).enough room (search_same (seed_of_not a b) n ∙ e)
 
   pub one_full : (a n : ℕ) → a < K.entries → 3 ^ width_of H K ≤ n → search_in (setup H K) (seed_of_one a) n ≡ full → ⊥
-  one_full a n l room e = (room_suffices H K P (seed_of_one a) (seed_one_fits K a l) n).enough room (search-same (seed_of_one a) n ∙ e)
+  one_full a n l room e = (room_suffices H K P (seed_of_one a) (seed_one_fits K a l) n).enough room (search_same (seed_of_one a) n ∙ e)
 
   -- the same of classes that stand by entries of the book
   module _ (cs : List ℕ) (named : (k : ℕ) → k < length cs → get_or cs k 0 < K.entries) where

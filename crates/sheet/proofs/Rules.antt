@@ -11,18 +11,18 @@ use Rattle.book.proofs.Soundness.{book_sound}
 use Rattle.sheet.proofs.Sets.{decides_within}
 
 module _ (b : Book) (k n : ℕ) (rule : Rule) (inside : k < n) (count : n ≡ (says (view b)).rules) (is : rule ≡ (says (view b)).rule k) where
-  in-book : (rule.premise < (says (view b)).entries) × (rule.conclusion < (says (view b)).entries)
-  in-book =
+  in_book : (rule.premise < (says (view b)).entries) × (rule.conclusion < (says (view b)).entries)
+  in_book =
       let s = book_sound b in (
         omega (arith, ap (λ r. r.premise) is, s.premises_in k (omega arith)),
         omega (arith, ap (λ r. r.conclusion) is, s.conclusions_in k (omega arith)),
       )
 
   pub premise_fits : rule.premise < 64
-  premise_fits = omega (arith, in-book.0, (book_sound b).few_entries)
+  premise_fits = omega (arith, in_book.0, (book_sound b).few_entries)
 
   pub conclusion_fits : rule.conclusion < 64
-  conclusion_fits = omega (arith, in-book.1, (book_sound b).few_entries)
+  conclusion_fits = omega (arith, in_book.1, (book_sound b).few_entries)
 
   -- one set within the other: the world obeys the rule
   pub decides_obeys : (W : Interpretation) (m : ℕ) (sets : List ℕ) (t : Bool) → m ≡ (says (view b)).entries
@@ -33,4 +33,4 @@ module _ (b : Book) (k n : ℕ) (rule : Rule) (inside : k < n) (count : n ≡ (s
       subst (λ r. Decides t (Obeys W (says (view b)).concept r.premise r.conclusion)) is
       (decides_within W.size (get_or sets rule.premise 0) (get_or sets rule.conclusion 0)
       (holds W (says (view b)).concept rule.premise) (holds W (says (view b)).concept rule.conclusion) t
-      (known rule.premise (omega (arith, in-book.0))) (known rule.conclusion (omega (arith, in-book.1))) d)
+      (known rule.premise (omega (arith, in_book.0))) (known rule.conclusion (omega (arith, in_book.1))) d)

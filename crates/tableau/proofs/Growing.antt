@@ -132,10 +132,10 @@ taken_took k e l low = go (in_label l true k) refl (in_label l false k) refl
     }
 
 -- what is in a branch comes by one of the ways
-in-branch : (P : Label → Type 0) (e : Label) (f : Label → List Label) (w : Ways) → EachWay P w → In e (branch f w) → (m : Label) × P m × In e (f m)
+in_branch : (P : Label → Type 0) (e : Label) (f : Label → List Label) (w : Ways) → EachWay P w → In e (branch f w) → (m : Label) × P m × In e (f m)
 unfolding branch
-in-branch P e f (One l) p h = (l, p, h)
-in-branch P e f (Two l m) p h = ⊎_elim (λ q. (l, p.0, q)) (λ q. (m, p.1, q)) (in_append e (f l) (f m) h)
+in_branch P e f (One l) p h = (l, p, h)
+in_branch P e f (Two l m) p h = ⊎_elim (λ q. (l, p.0, q)) (λ q. (m, p.1, q)) (in_append e (f l) (f m) h)
 
 -- e is an expansion of l by the entries below k
 record Expanded (B : Table) (k : ℕ) (l e : Label) : Type 0 where
@@ -144,8 +144,8 @@ record Expanded (B : Table) (k : ℕ) (l e : Label) : Type 0 where
   done : (i : ℕ) (s : Bool) → i < k → i < B.width → in_label e s i ≡ true → Saturates (B.entry i) s e
 
 -- with no entry left, it is the label itself, if it has no clash
-in-calm : (B : Table) (l e : Label) → In e (cond (clash B l) [] (l ∷ [])) → Expanded B 0 l e
-in-calm B l e h = go (clash B l) refl h
+in_calm : (B : Table) (l e : Label) → In e (cond (clash B l) [] (l ∷ [])) → Expanded B 0 l e
+in_calm B l e h = go (clash B l) refl h
   where
     go : (b : Bool) → clash B l ≡ b → In e (cond b [] (l ∷ [])) → Expanded B 0 l e
     go true c h = absurd h
@@ -182,9 +182,9 @@ expanded_step B k l m e t x = record { grew = grew_on k (suc k) l m e (omega ari
 -- each label that is made is such an expansion
 expand_right : (B : Table) → ((i : ℕ) → LowerEntry i (B.entry i)) → (k : ℕ) (l e : Label) → In e (expand B k l) → Expanded B k l e
 unfolding expand
-expand_right B low zero l e h = in-calm B l e h
+expand_right B low zero l e h = in_calm B l e h
 expand_right B low (suc k) l e h =
-    let w = in-branch (Took k (B.entry k) l) e (expand B k) (taken (B.entry k) k l) (taken_took k (B.entry k) l (low k)) h in
+    let w = in_branch (Took k (B.entry k) l) e (expand B k) (taken (B.entry k) k l) (taken_took k (B.entry k) l (low k)) h in
     expanded_step B k l w.0 e w.1 (expand_right B low k w.0 e w.2)
 
 -- an expansion of a seed is saturated, and is the seed with working entries besides

@@ -17,10 +17,10 @@ extension-set-requires g c =
     let b = c.args.book.now in
     let i = c.loop-i.i in
     let s = book_sound b in
-    let in-book : i < (says (view b)).entries = omega (arith, c.loop-i-test.true, c.requires) in
+    let in_book : i < (says (view b)).entries = omega (arith, c.loop-i-test.true, c.requires) in
     let same = sym c.concept.ensures in (
       subst (Lower 64) same (lower_more i 64 ((says (view b)).concept i) (omega (arith, s.few_entries)) (s.lower i)),
-      subst Asked same (asked b i in-book),
+      subst Asked same (asked b i in_book),
       c.loop-i.invariant.inside,
     )
 
