@@ -4,7 +4,7 @@ use lib.Bits.{bit_and, bit_or, and_step, or_step, and_mask, and_lt, or_shifted}
 use lib.Count.{count_leading_zeros, count_trailing_zeros, under}
 use Rattle.std.proofs.lemmas.Nat.{shr-shr, pow_pos, leading_top}
 use Rattle.std.proofs.lemmas.Bool.Decides.{nat_tests}
-use Rattle.std.proofs.lemmas.Bool.{eqb-true, eq-eqb, ne_eqb, cases_eq, and_parts, le-ltb}
+use Rattle.std.proofs.lemmas.Bool.{eqb-true, eq-eqb, ne_eqb, cases_eq, cases_lt, and_parts, lt-ltb, le-ltb}
 use Rattle.words.specs.Sets.{has, Within, Disjoint, set_of, Comprehends}
 
 pub has_test : (w k : ℕ) → eqb (bit_and (w / 2 ^ k) 1) 1 ≡ has w k
@@ -226,3 +226,10 @@ set_is n w p few l same =
     let c = comprehends n p in
     let m = pow_mono few in
     same_set 64 w (set_of n p) l (omega (arith, c.fits, m)) (λ k h. same k ∙ sym (c.members k))
+
+-- a set that agrees with a test below n, and has nothing from n on
+pub collected : (n w : ℕ) (p : ℕ → Bool) → ((k : ℕ) → k < n → has w k ≡ p k) → ((k : ℕ) → n ≤ k → has w k ≡ false) → (j : ℕ) → has w j ≡ (ltb j n && p j)
+collected n w p inside outside j = ⊎_elim
+    (λ lt. inside j lt ∙ sym (ap (λ b. b && p j) (lt-ltb j n lt)))
+    (λ ge. outside j ge ∙ sym (ap (λ b. b && p j) (le-ltb j n ge)))
+    (cases_lt j n)

@@ -22,6 +22,10 @@ unfoldable pub set_of : ℕ → (ℕ → Bool) → ℕ
 set_of zero p = 0
 set_of (suc n) p = set_of n p + cond (p n) (2 ^ n) 0
 
+-- what a test answers on the numbers below n is what p says
+abbrev pub Tests : ℕ → (ℕ → Bool → Type 0) → (ℕ → Bool) → Type 0
+Tests n answers p = (k : ℕ) (b : Bool) → k < n → answers k b → b ≡ p k
+
 -- up to 64 numbers fit a word, and its members are they
 pub record Comprehends (n : ℕ) (p : ℕ → Bool) : Type 0 where
   pub fits : set_of n p < 2 ^ n

@@ -2,8 +2,8 @@
 // Every contract speaks through the one definition of membership, `has`; a word is determined by its members.
 #![tactic(auto)]
 
-ghost use Rattle.std.specs.Prelude.{◌≡◌, ℕ, ◌-◌, ◌^◌, ◌<◌, true, false, not, ◌&&◌, ◌||◌, Decides, ◌==◌, bit_and, bit_or, nat_lt};
-ghost use Rattle.words.specs.Sets.{has, Within, Disjoint, Determined, Comprehension};
+ghost use Rattle.std.specs.Prelude.{◌≡◌, ℕ, ◌-◌, ◌^◌, ◌<◌, ◌≤◌, Bool, true, false, not, ◌&&◌, ◌||◌, Decides, ◌==◌, bit_and, bit_or, nat_lt, slice_index};
+ghost use Rattle.words.specs.Sets.{has, set_of, Tests, Within, Disjoint, Determined, Comprehension};
 
 // Whether k is in the set.
 pub fn member(w: u64, k: usize) -> bool
@@ -95,6 +95,34 @@ pub fn highest(w: u64) -> usize
     ensures most { (j : ℕ) → result < j → has w j ≡ false }
 {
     63 - w.leading_zeros() as usize
+}
+
+// The set of the numbers below n that pass the test.
+pub fn collect<F: Fn(usize) -> bool>(n: usize, passes: F) -> u64
+    requires few { n < 65 }
+    requires callable { (k : ℕ) → k < n → F.pre passes k }
+    ensures value { (p : ℕ → Bool) → Tests n (F.post passes) p → result ≡ set_of n p }
+    ensures members { (p : ℕ → Bool) → Tests n (F.post passes) p → (j : ℕ) → has result j ≡ (nat_lt j n && p j) }
+{
+    let mut set = 0;
+    for k in 0..n {
+        if passes(k) {
+            set = insert(set, k);
+        }
+    }
+    set
+}
+
+// The table of 64 words whose word k is what the function gives for k.
+pub fn tabulate<F: Fn(usize) -> u64>(row: F) -> [u64; 64]
+    requires { (k : ℕ) → k < 64 → F.pre row k }
+    ensures { (k : ℕ) → k < 64 → F.post row k (slice_index result k) }
+{
+    let mut table = [0; 64];
+    for k in 0..64 {
+        table[k] = row(k);
+    }
+    table
 }
 
 // Two words with the same members are the same word, so the contracts above pin their results; and the word that is
