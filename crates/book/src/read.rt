@@ -117,12 +117,7 @@ fn first_unfit(n: usize, records: &[u8]) -> Option<usize>
     ensures value { result ≡ lowest_unfit n records.now }
     ensures inside { IfSome result (λ k. k < length records.now / 2) }
 {
-    for k in 0..records.len() / 2 {
-        if !both_below(records, k, n) {
-            return Some(k);
-        }
-    }
-    None
+    (0..records.len() / 2).find(|k| !both_below(records, *k, n))
 }
 
 fn first_bad_concept(roles: usize, concepts: &[u8]) -> Option<usize>

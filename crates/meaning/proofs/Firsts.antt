@@ -1,5 +1,5 @@
 -- The first number below a bound of which a test holds.
-use Rattle.std.proofs.Common.{◌≡◌, ℕ, zero, suc, ◌<◌, Bool, true, false, cond, is_some, Some, None, Option, refl, ap, ◌∙◌, ⊎_elim, arith}
+use Rattle.std.proofs.Common.{◌≡◌, ℕ, zero, suc, ◌<◌, ◌≤◌, Bool, true, false, cond, is_some, Some, None, Option, MatchOption, refl, sym, ap, ◌∙◌, ⊎_elim, arith}
 use Rattle.std.proofs.lemmas.Bool.{cases_eq, true≢false}
 use Rattle.meaning.specs.Bounded.{or_else, first}
 
@@ -39,3 +39,11 @@ clear_from zero p e k l = absurd (omega arith)
 clear_from (suc n) p e k l =
     let parts = none_parts (first n p) (cond (p n) (Some n) None) e in
     ⊎_elim (λ (same : k ≡ n). rw same (none_cond (p n) n parts.1)) (λ other. clear_from n p parts.0 k (omega arith)) (cases_eq k n)
+
+-- what a search upward from 0 comes to: all below n fail, or the number passes, and all below it fail
+abbrev pub Found : ℕ → (ℕ → Bool) → Option ℕ → Type 0
+Found n p r = MatchOption r ((k : ℕ) → 0 ≤ k → k < n → p k ≡ false) (λ i. (0 ≤ i) × (i < n) × (p i ≡ true) × ((k : ℕ) → 0 ≤ k → k < i → p k ≡ false))
+
+pub first_found : (n : ℕ) (p : ℕ → Bool) (r : Option ℕ) → Found n p r → r ≡ first n p
+first_found n p None f = sym (first_none n p (λ k l. f k (omega arith) l))
+first_found n p (Some i) f = sym (first_some n i p f.1 (λ k l. f.3 k (omega arith) l) f.2)

@@ -1,5 +1,6 @@
 pub mod Tests
 pub mod Firsts
+pub mod Ranges
 pub mod Meanings
 pub mod Chains
 pub mod Agreement
