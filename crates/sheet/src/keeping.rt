@@ -74,13 +74,7 @@ fn keeps_rules<W: World>(world: &W, book: &Book) -> bool
 fn includes<W: World>(world: &W, r: usize, s: usize) -> bool
     ensures { Decides result (Includes (W.World.interpretation world.now) r s) }
 {
-    let m = world.individuals();
-    for x in 0..m {
-        if !row_within(world, r, x, s, x) {
-            return false;
-        }
-    }
-    true
+    (0..world.individuals()).all(|x| row_within(world, r, x, s, x))
 }
 
 // Whether r joins x to z where it joins x to y and y to z.

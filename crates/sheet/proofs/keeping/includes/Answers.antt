@@ -1,5 +1,12 @@
-use Rattle.std.proofs.Common.{below_more}
+use Rattle.std.proofs.Common.{ℕ, refl, rules}
+use Rattle.std.proofs.lemmas.Iterator.{YieldsList-from_range, cases_from_all}
+use Rattle.meaning.proofs.Ranges.{all_below}
+use Rattle.sheet.specs.Keeping.{RowWithin}
 use Rattle.sheet.proofs.keeping.includes.Goals as goal
 
-pub loop-x-preserved : goal.loop-x-preserved
-loop-x-preserved g c = below_more _ _ c.loop-x.invariant (c.row_within.ensures.0 c.if-not-row_within.false)
+pub returns : goal.returns
+returns g c =
+    let W = g.W.World.interpretation c.args.world.now in
+    let P = λ (x : ℕ). RowWithin W c.args.r x c.args.s x in
+    let d = all_below W.size P _ (cases_from_all _ _ _ P (λ x. P x → ⊥) c.all.ensures.ran (YieldsList-from_range 0 _ _ refl c.individuals.ensures) (λ x q e. search rules) (λ x q e. search rules)) in
+    ((λ e x y l. d.0 e x l y), (λ each. d.1 (λ x l y. each x y l)))
