@@ -1,7 +1,8 @@
 // The obligations of a label, one after another, each with the seed of the successor that it asks for.
 #![tactic(auto)]
 
-ghost use Rattle.std.specs.Prelude.{◌≡◌, ◌+◌, ◌<◌, [], ◌∷◌, IfSome, MatchOption, option_map};
+ghost use Rattle.std.specs.Iterator.{at_most};
+ghost use Rattle.std.specs.Prelude.{◌≡◌, ◌+◌, ◌-◌, ◌<◌, ◌≤◌, [], ◌∷◌, IfSome, MatchOption, option_map};
 ghost use Rattle.tableau.specs.Seeds.{obliges, sign_of, obligation, obliged_at, told_further, told_by_entry, tell, seed_of};
 ghost use Rattle.plan.specs.Meanings.{table_in, box_in};
 ghost use Rattle.plan.specs.Plans.{listed_entry};
@@ -121,16 +122,39 @@ impl<'p> Telling<'p> {
     }
 }
 
-// The lowest member of the set from `start` on.
-fn next_member(set: u64, start: usize) -> Option<usize>
-    requires { start < 65 }
-    ensures { MatchOption result (NoneFrom set start) (λ i. NextFrom set start i) }
-{
-    let rest = words::difference(set, words::below(start));
-    if rest == 0 {
-        return None;
+// The members of a set from `start` on, by rising number.
+#[derive(Clone, Copy)]
+struct Members {
+    set: u64,
+    start: usize,
+    ghost within: { start ≤ 64 },
+}
+
+impl Members {
+    fn new(set: u64, start: usize) -> Members
+        requires { start ≤ 64 }
+        ensures { (result.set ≡ set) × (result.start ≡ start) }
+    {
+        Members { set, start }
     }
-    Some(words::lowest(rest))
+}
+
+impl Iterator for Members {
+    type Item = usize;
+
+    ghost next_gives = { λ s r t. (t.set ≡ s.set) × MatchOption r (NoneFrom s.set s.start) (λ i. NextFrom s.set s.start i × (t.start ≡ i + 1)) };
+
+    ghost remaining = { λ s. at_most (64 - s.start) };
+
+    fn next(&mut self) -> Option<usize> {
+        let rest = words::difference(self.set, words::below(self.start));
+        if rest == 0 {
+            return None;
+        }
+        let i = words::lowest(rest);
+        self.start = i + 1;
+        Some(i)
+    }
 }
 
 // The seed of a successor by r of a node with the label, for an obligation to the part a with the sign.
@@ -147,10 +171,8 @@ pub fn seed(plan: &Plan, label: Label, r: usize, sign: bool, a: usize) -> Label
     };
     let asked = words::intersection(label.entries(), plan.above[r]);
     let mut acc = Label::EMPTY.with(sign, a);
-    let mut start = 0;
-    while let Some(i) = next_member(asked, start) {
+    for i in Members::new(asked, 0) {
         acc = telling.tell(i, acc);
-        start = i + 1;
     }
     acc
 }
@@ -177,11 +199,9 @@ pub fn next_seed(plan: &Plan, label: Label, k: usize) -> Option<(Label, usize)>
         return None;
     }
     let signed = words::intersection(label.entries(), words::below(plan.width));
-    let mut start = k;
-    while let Some(i) = next_member(signed, start) {
-        start = i + 1;
+    for i in Members::new(signed, k) {
         if let Some(found) = seed_at(plan, label, i) {
-            return Some((found, start));
+            return Some((found, i + 1));
         }
     }
     None
