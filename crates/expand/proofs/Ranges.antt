@@ -1,13 +1,13 @@
 -- A run of entries put into a label, as one word.
-use Rattle.std.proofs.Common.{◌≡◌, ℕ, zero, suc, ◌+◌, ◌^◌, ◌<◌, ◌≤◌, Bool, true, not, ◌&&◌, ◌||◌, eqb, ltb, sym, refl, ◌∙◌, ap₂, arith}
-use lib.Bits.{or_lt}
+use Rattle.std.proofs.Common.{◌≡◌, ℕ, zero, suc, ◌+◌, ◌^◌, ◌<◌, ◌≤◌, Bool, true, not, ◌&&◌, ◌||◌, eqb, ltb, sym, refl, ap, ◌∙◌, ap₂, arith}
+use lib.Bits.{bit_or, or_lt}
 use lib.Pow.{pow-lt}
 use Rattle.std.proofs.lemmas.Bool.Decides.{nat_tests}
 use Rattle.words.specs.Sets.{has}
 use Rattle.words.proofs.Words.{has_or, has_single, same_set}
 use Rattle.tableau.specs.declared.Label.{Label}
 use Rattle.tableau.specs.Folds.{fold}
-use Rattle.tableau.specs.Labels.{put}
+use Rattle.tableau.specs.Labels.{put, put_all}
 
 -- j is one of the n numbers from lo on
 abbrev pub in_run : ℕ → ℕ → ℕ → Bool
@@ -41,10 +41,11 @@ ranged lo (suc n) l p few =
       minus_is = r.minus_is;
     }
 
-pub run_is : (lo n w : ℕ) (l : Label) → l.plus < 2 ^ 64 → lo + n ≤ 64 → w < 2 ^ 64 → ((j : ℕ) → has w j ≡ (has l.plus j || in_run lo n j))
-    → ◌≡◌ {A = Label} (record { plus = w; minus = l.minus }) (fold n (λ k. put true (lo + k)) l)
-run_is lo n w l p few q h =
+pub run_is : (lo n run : ℕ) (l : Label) → l.plus < 2 ^ 64 → lo + n ≤ 64 → run < 2 ^ 64 → ((j : ℕ) → has run j ≡ in_run lo n j)
+    → put_all true run l ≡ fold n (λ k. put true (lo + k)) l
+run_is lo n run l p few q h =
     let r = ranged lo n l p few in
     let m = fold n (λ k. put true (lo + k)) l in
-    let a : w ≡ m.plus = same_set 64 w m.plus q r.fits (λ j lt. h j ∙ sym (r.plus_has j)) in
+    let a : bit_or l.plus run ≡ m.plus =
+    same_set 64 (bit_or l.plus run) m.plus (or_lt 64 l.plus run p q) r.fits (λ j lt. has_or l.plus run j ∙ ap (λ b. has l.plus j || b) (h j) ∙ sym (r.plus_has j)) in
     ap₂ (λ x y. record { plus = x; minus = y }) a (sym r.minus_is)

@@ -1,6 +1,7 @@
 -- A run of entries without alternatives: what comes of the label that it ends with comes of the label that it starts from.
-use Rattle.std.proofs.Common.{◌≡◌, ℕ, zero, suc, ◌+◌, ◌-◌, ◌<◌, ◌≤◌, Bool, true, false, ◌&&◌, ◌||◌, ltb, [], ◌∷◌, sym, refl, ap, ◌∙◌, ap₂, arith, pow_mono}
+use Rattle.std.proofs.Common.{◌≡◌, ℕ, zero, suc, ◌+◌, ◌-◌, ◌<◌, ◌≤◌, Bool, true, false, ◌&&◌, ◌||◌, ltb, [], ◌∷◌, sym, refl, ap, ◌∙◌, ap₂, arith, pow_mono, MatchOption}
 use Rattle.std.proofs.lemmas.Bool.{and_parts, both_ways, lt-ltb, ltb-true}
+use Rattle.std.specs.Bool.{then_some}
 use Rattle.words.specs.Sets.{has}
 use Rattle.tableau.specs.declared.Label.{Label}
 use Rattle.tableau.specs.declared.Ways.TheVariants.{One}
@@ -12,6 +13,11 @@ use Rattle.expand.specs.Runs.{Free, Along}
 use Rattle.expand.proofs.Choosing.{from_clash}
 use Rattle.expand.proofs.Enumerating.{one_from}
 use Rattle.expand.proofs.Taking.{taken_none}
+
+-- a value that a test lets through
+pub some_if : {A : Type 0} (P : Type 0) (Q : A → Type 0) (b : Bool) (x : A) → (b ≡ true → Q x) → (b ≡ false → P) → MatchOption (then_some b x) P Q
+some_if P Q true x q p = q refl
+some_if P Q false x q p = p refl
 
 pub weight_more : (j k : ℕ) → j ≤ k → weight j ≤ weight k
 unfolding weight

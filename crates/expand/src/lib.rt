@@ -6,7 +6,7 @@ ghost use Rattle.words.specs.Sets.{has};
 ghost use Rattle.tableau.specs.Folds.{fold};
 ghost use Rattle.tableau.specs.Labels.{in_label, put};
 ghost use Rattle.tableau.specs.Entries.{LowerEntry};
-ghost use Rattle.tableau.specs.Expansions.{clash_at, clash, grown, taken};
+ghost use Rattle.tableau.specs.Expansions.{clash_at, clash, one_of, grown, taken};
 ghost use Rattle.plan.specs.Plans.{listed_entry};
 ghost use Rattle.plan.specs.Meanings.{table_in};
 ghost use Rattle.expand.specs.Choices.{weight, from, FirstFrom, ChoicesCover};
@@ -16,42 +16,25 @@ use meaning::Concept;
 use plan::Plan;
 use tableau::{Entry, Label, Ways};
 
-// Whether the label holds entry i with the sign.
-fn holds(label: Label, sign: bool, i: usize) -> bool
-    requires { i < 64 }
-    ensures { result ≡ in_label label sign i }
-{
-    if sign {
-        words::member(label.plus, i)
-    } else {
-        words::member(label.minus, i)
-    }
-}
-
-// The label with entry i, with the sign, in it too.
-fn put(label: Label, sign: bool, i: u8) -> Label
-    requires { i < 64 }
-    ensures { result ≡ put sign i label }
-{
-    if sign {
-        Label {
-            plus: words::insert(label.plus, i as usize),
-            ..label
-        }
-    } else {
-        Label {
-            minus: words::insert(label.minus, i as usize),
-            ..label
-        }
-    }
-}
-
-// Whether the label holds one of two signed entries.
-fn holds_either(label: Label, s: bool, a: u8, t: bool, b: u8) -> bool
+// The label where it holds one of two signed entries, else the label with the first and with the second.
+fn either(label: Label, s: bool, a: u8, t: bool, b: u8) -> Ways
     requires { (a < 64) × (b < 64) }
-    ensures { result ≡ (in_label label s a || in_label label t b) }
+    ensures { result ≡ one_of (in_label label s a || in_label label t b) (put s a label) (put t b label) label }
 {
-    holds(label, s, a as usize) || holds(label, t, b as usize)
+    let (a, b) = (a as usize, b as usize);
+    if label.holds(s, a) || label.holds(t, b) {
+        Ways::One(label)
+    } else {
+        Ways::Two(label.with(s, a), label.with(t, b))
+    }
+}
+
+// The label with both entries, so signed, in it too.
+fn both(label: Label, sign: bool, a: u8, b: u8) -> Label
+    requires { (a < 64) × (b < 64) }
+    ensures { result ≡ put sign a (put sign b label) }
+{
+    label.with(sign, b as usize).with(sign, a as usize)
 }
 
 // The label with each of n entries from lo on, with +, in it too.
@@ -61,10 +44,7 @@ fn put_all(label: Label, lo: u8, n: u8) -> Label
 {
     let start = lo as usize;
     let run = words::difference(words::below(start + n as usize), words::below(start));
-    Label {
-        plus: words::union(label.plus, run),
-        ..label
-    }
+    label.with_all(true, run)
 }
 
 // What a label that holds the entry with the sign must hold besides: nothing is added if an alternative is there.
@@ -73,32 +53,14 @@ fn grow(entry: Entry, sign: bool, label: Label) -> Ways
     ensures { result ≡ grown entry sign label }
 {
     match (entry, sign) {
-        (Entry::Plain(Concept::Nothing), _) => Ways::One(label),
-        (Entry::Plain(Concept::Everything), _) => Ways::One(label),
-        (Entry::Plain(Concept::Name(_)), _) => Ways::One(label),
-        (Entry::Plain(Concept::Not(a)), _) => Ways::One(put(label, !sign, a)),
-        (Entry::Plain(Concept::And(a, b)), true) => Ways::One(put(put(label, true, b), true, a)),
-        (Entry::Plain(Concept::And(a, b)), false) if holds_either(label, false, a, false, b) =>
-            Ways::One(label),
-        (Entry::Plain(Concept::And(a, b)), false) => Ways::Two(
-            put(label, false, a),
-            put(label, false, b),
-        ),
-        (Entry::Plain(Concept::Or(a, b)), true) if holds_either(label, true, a, true, b) =>
-            Ways::One(label),
-        (Entry::Plain(Concept::Or(a, b)), true) => Ways::Two(
-            put(label, true, a),
-            put(label, true, b),
-        ),
-        (Entry::Plain(Concept::Or(a, b)), false) => Ways::One(put(put(label, false, b), false, a)),
-        (Entry::Plain(Concept::Restriction(_, _, _)), _) => Ways::One(label),
-        (Entry::Inclusion(a, b), true) if holds_either(label, false, a, true, b) => Ways::One(
-            label,
-        ),
-        (Entry::Inclusion(a, b), true) => Ways::Two(put(label, false, a), put(label, true, b)),
-        (Entry::Inclusion(_, _), false) => Ways::One(label),
+        (Entry::Plain(Concept::Not(a)), _) => Ways::One(label.with(!sign, a as usize)),
+        (Entry::Plain(Concept::And(a, b)), true) => Ways::One(both(label, true, a, b)),
+        (Entry::Plain(Concept::And(a, b)), false) => either(label, false, a, false, b),
+        (Entry::Plain(Concept::Or(a, b)), true) => either(label, true, a, true, b),
+        (Entry::Plain(Concept::Or(a, b)), false) => Ways::One(both(label, false, a, b)),
+        (Entry::Inclusion(a, b), true) => either(label, false, a, true, b),
         (Entry::Inclusions(lo, n), true) => Ways::One(put_all(label, lo, n)),
-        (Entry::Inclusions(_, _), false) => Ways::One(label),
+        _ => Ways::One(label),
     }
 }
 
@@ -108,10 +70,10 @@ fn take(plan: &Plan, k: usize, label: Label) -> Ways
     ensures { result ≡ taken (listed_entry plan.now.entries k) k label }
 {
     let entry = plan.entry(k);
-    if holds(label, true, k) {
+    if label.holds(true, k) {
         return grow(entry, true, label);
     }
-    if holds(label, false, k) {
+    if label.holds(false, k) {
         return grow(entry, false, label);
     }
     Ways::One(label)
@@ -144,10 +106,7 @@ fn weight_of(k: usize) -> u64
     requires { k < 64 }
     ensures { result ≡ weight k }
 {
-    if k == 0 {
-        return 1;
-    }
-    words::single(k - 1)
+    words::single(k.saturating_sub(1))
 }
 
 // The highest entry below k that the label holds, with either sign.
@@ -155,46 +114,42 @@ fn highest_held(label: Label, k: usize) -> Option<usize>
     requires { k ≤ 64 }
     ensures { MatchOption result (Free label 0 k) (λ i. (i < k) × Free label (i + 1) k) }
 {
-    let held = words::intersection(words::union(label.plus, label.minus), words::below(k));
+    let held = words::intersection(label.entries(), words::below(k));
     if held == 0 {
         return None;
     }
     Some(words::highest(held))
 }
 
-// What comes of a label up to the first entry with two alternatives: a clash, an expansion, or the entry and its two labels.
+// What comes of a label up to the first entry with two alternatives: an expansion, or the entry and its two labels.
 #[derive(Clone, Copy)]
 enum Run {
-    Dead,
     Done(Label),
     Fork(usize, Label, Label),
 }
 
 // Takes the entries below k up to the first with two alternatives. An entry that the label does not hold is passed over, and
-// a label that clashes goes no further, since it has no expansion however it grows.
-fn descend(plan: &Plan, label: Label, k: usize) -> Run
+// nothing comes of a label that clashes, since it has no expansion however it grows.
+fn descend(plan: &Plan, label: Label, k: usize) -> Option<Run>
     requires { k ≤ 64 }
     ensures { Runs (table_in plan.now) k label result }
 {
     let mut at = label;
     let mut left = k;
+    // Stays: no iterator could go over these entries, since each that is taken changes the label that says which come next.
     while let Some(i) = highest_held(at, left) {
         if clashes(plan, at) {
-            return Run::Dead;
+            return None;
         }
         match take(plan, i, at) {
             Ways::One(l) => {
                 at = l;
                 left = i;
             }
-            Ways::Two(a, b) => return Run::Fork(i, a, b),
+            Ways::Two(a, b) => return Some(Run::Fork(i, a, b)),
         }
     }
-    if clashes(plan, at) {
-        Run::Dead
-    } else {
-        Run::Done(at)
-    }
+    (!clashes(plan, at)).then_some(Run::Done(at))
 }
 
 // The first expansion by the entries below k at the choice word c or after it, with its choice word.
@@ -202,9 +157,8 @@ fn first(plan: &Plan, label: Label, k: usize, c: u64) -> Option<(Label, u64)>
     requires { k ≤ 64 }
     ensures { MatchOption result (from (table_in plan.now) k label c ≡ []) (FirstFrom (table_in plan.now) k label c) }
 {
-    match descend(plan, label, k) {
-        Run::Dead => None,
-        Run::Done(l) => if c == 0 { Some((l, 0)) } else { None },
+    match descend(plan, label, k)? {
+        Run::Done(l) => (c == 0).then_some((l, 0)),
         Run::Fork(j, a, b) => {
             let weight = weight_of(j);
             if c < weight {
@@ -212,10 +166,8 @@ fn first(plan: &Plan, label: Label, k: usize, c: u64) -> Option<(Label, u64)>
                     return Some(found);
                 }
             }
-            match first(plan, b, j, c.saturating_sub(weight)) {
-                Some((l, q)) => Some((l, q + weight)),
-                None => None,
-            }
+            let (l, q) = first(plan, b, j, c.saturating_sub(weight))?;
+            Some((l, q + weight))
         }
     }
 }
@@ -224,10 +176,8 @@ fn first(plan: &Plan, label: Label, k: usize, c: u64) -> Option<(Label, u64)>
 pub fn next_label(plan: &Plan, seed: Label, c: u64) -> Option<(Label, u64)>
     ensures { MatchOption result (from (table_in plan.now) plan.now.width seed c ≡ []) (λ p. from (table_in plan.now) plan.now.width seed c ≡ p.0 ∷ from (table_in plan.now) plan.now.width seed p.1) }
 {
-    match first(plan, seed, plan.width, c) {
-        Some((label, q)) => Some((label, q + 1)),
-        None => None,
-    }
+    let (label, q) = first(plan, seed, plan.width, c)?;
+    Some((label, q + 1))
 }
 
 // Choice words from 0 on run through all expansions of a seed, and through no more than 2 ^ 63.

@@ -1,32 +1,29 @@
-use Rattle.std.proofs.Common.{◌≡◌, suc, ◌+◌, [], refl, ◌∙◌, arith}
+use Rattle.std.proofs.Common.{◌≡◌, suc, ◌+◌, [], eqb, refl, ◌∙◌, arith}
+use Rattle.std.proofs.lemmas.Bool.{eqb-true, eqb-false}
 use Rattle.plan.specs.Meanings.{table_in}
 use Rattle.plan.proofs.Lowered.{plan_lower}
-use Rattle.expand.specs.Choices.{from}
+use Rattle.expand.specs.Choices.{from, FirstFrom}
 use Rattle.expand.proofs.Choosing.{weight_few}
 use Rattle.expand.proofs.Enumerating.{end_here, end_none, two_none, two_first, two_second, past_first}
-use Rattle.expand.proofs.Running.{along_first}
+use Rattle.expand.proofs.Running.{some_if, along_first}
 use Rattle.expand.proofs.+first.Goals as goal
 use Rattle.expand.proofs.+first.Goals.{then-c-weight+in_default, else-c-weight}
 
-pub returns-then-c-eq0 : goal.returns-then-c-eq0
-returns-then-c-eq0 t c =
-    let B = table_in c.args.plan.now in
+pub returns-in-Done : goal.returns-in-Done
+returns-in-Done t c =
+    let p = c.args.plan.now in
+    let B = table_in p in
     let m = c.in-Done.l in
-    let so = c.in-Done.ensures in
-    along_first B c.args.k c.args.label 0 m so.0 c.args.c (m, 0)
-    (end_here B 0 m c.args.c refl c.if-c-eq0.true so.1 (plan_lower c.args.plan.now 0))
-
-pub returns-else-c-eq0 : goal.returns-else-c-eq0
-returns-else-c-eq0 t c =
-    let B = table_in c.args.plan.now in
-    let so = c.in-Done.ensures in
-    so.0.same c.args.c ∙ end_none B 0 c.in-Done.l c.args.c refl (omega (arith, c.if-c-eq0.false)) (plan_lower c.args.plan.now 0)
+    let so = rw c.in-Done.is at c.in_ok-l.ensures in
+    rw c.then_some.ensures (some_if _ (FirstFrom B c.args.k c.args.label c.args.c) (eqb c.args.c 0) (m, 0)
+    (λ at. along_first B c.args.k c.args.label 0 m so.0 c.args.c (m, 0) (end_here B 0 m c.args.c refl (eqb-true c.args.c 0 at) so.1 (plan_lower p 0)))
+    (λ past. so.0.same c.args.c ∙ end_none B 0 m c.args.c refl (omega (arith, eqb-false c.args.c 0 past)) (plan_lower p 0)))
 
 pub returns-in-Some : goal.returns-in-Some
 returns-in-Some t c =
     let B = table_in c.args.plan.now in
     let j = c.in-Fork.j in
-    let so = c.in-Fork.ensures in
+    let so = rw c.in-Fork.is at c.in_ok-l.ensures in
     let m = so.0 in
     along_first B c.args.k c.args.label (suc j) m so.1 c.args.c c.in-Some.found
     (two_first B (suc j) j m refl (plan_lower c.args.plan.now 0) c.in-Fork.a c.in-Fork.b so.2
@@ -34,15 +31,16 @@ returns-in-Some t c =
 
 pub overflow_add-result : goal.overflow_add-result
 overflow_add-result t c =
-    let few = c.in-Fork.ensures.1.few in
-    omega (arith, c.weight_of-weight.ensures, c.in-Some-first.ensures.1, weight_few c.in-Fork.j (omega (arith, few)))
+    let so = rw c.in-Fork.is at c.in_ok-l.ensures in
+    let few = so.1.few in
+    omega (arith, c.weight_of-weight.ensures, c.in_ok-l-in-Fork.ensures.1, weight_few c.in-Fork.j (omega (arith, few)))
 
-pub returns-in-Some-first : goal.returns-in-Some-first
-returns-in-Some-first t c =
+pub returns-in_ok-l-in-Fork : goal.returns-in_ok-l-in-Fork
+returns-in_ok-l-in-Fork t c =
     let B = table_in c.args.plan.now in
     let low = plan_lower c.args.plan.now 0 in
     let j = c.in-Fork.j in
-    let so = c.in-Fork.ensures in
+    let so = rw c.in-Fork.is at c.in_ok-l.ensures in
     let m = so.0 in
     let v = c.weight_of-weight.result in
     let is = c.weight_of-weight.ensures in
@@ -51,16 +49,18 @@ returns-in-Some-first t c =
       | then-c-weight+in_default w ↦ w.in_default.ensures
       | else-c-weight w ↦ past_first B j low c.in-Fork.a v is c.args.c w.if-c-weight.false
     ] in
-    along_first B c.args.k c.args.label (suc j) m so.1 c.args.c (c.in-Some-first.l, c.in-Some-first.q + v)
+    let l = c.in_ok-l-in-Fork.l in
+    let q = c.in_ok-l-in-Fork.q in
+    along_first B c.args.k c.args.label (suc j) m so.1 c.args.c (l, q + v)
     (two_second B (suc j) j m refl low c.in-Fork.a c.in-Fork.b so.2 v is c.args.c c.saturating_sub.result c.saturating_sub.ensures
-    none c.in-Some-first.l c.in-Some-first.q c.in-Some-first.ensures)
+    none l q c.in_ok-l-in-Fork.ensures)
 
-pub returns-in-None : goal.returns-in-None
-returns-in-None t c =
+pub returns-in_err-l-in-Fork : goal.returns-in_err-l-in-Fork
+returns-in_err-l-in-Fork t c =
     let B = table_in c.args.plan.now in
     let low = plan_lower c.args.plan.now 0 in
     let j = c.in-Fork.j in
-    let so = c.in-Fork.ensures in
+    let so = rw c.in-Fork.is at c.in_ok-l.ensures in
     let m = so.0 in
     let v = c.weight_of-weight.result in
     let is = c.weight_of-weight.ensures in
@@ -69,6 +69,6 @@ returns-in-None t c =
       | then-c-weight+in_default w ↦ w.in_default.ensures
       | else-c-weight w ↦ past_first B j low c.in-Fork.a v is c.args.c w.if-c-weight.false
     ] in
-    so.1.same c.args.c
-    ∙ two_none B (suc j) j m refl low c.in-Fork.a c.in-Fork.b so.2 v is c.args.c c.saturating_sub.result c.saturating_sub.ensures
-    none c.in-None.ensures
+    rw c.from_residual-in_err-l-in-Fork.ensures
+    (so.1.same c.args.c
+    ∙ two_none B (suc j) j m refl low c.in-Fork.a c.in-Fork.b so.2 v is c.args.c c.saturating_sub.result c.saturating_sub.ensures none c.in_err-l-in-Fork.ensures)

@@ -1,6 +1,9 @@
-use Rattle.std.proofs.Common.{suc, sym, arith}
+use Rattle.std.proofs.Common.{suc, not, sym, ◌∙◌, arith}
+use Rattle.std.proofs.lemmas.Bool.{not-true, not-false}
 use Rattle.plan.specs.Meanings.{table_in}
-use Rattle.expand.proofs.Running.{along_free, along_dead, along_one}
+use Rattle.expand.specs.declared.Run.TheVariants.{Done}
+use Rattle.expand.specs.Runs.{Comes}
+use Rattle.expand.proofs.Running.{some_if, along_free, along_dead, along_one}
 use Rattle.expand.proofs.descend.Goals as goal
 
 pub returns-then-clashes : goal.returns-then-clashes
@@ -21,11 +24,11 @@ returns-in-Two c =
       sym c.in-Two.ensures,
     )
 
-pub returns-then-clashes-2 : goal.returns-then-clashes-2
-returns-then-clashes-2 c = along_dead (table_in c.args.plan.now) c.args.k c.args.label c.loop-i.left c.loop-i.at c.loop-i.invariant (sym c.if-clashes-2.ensures)
-
-pub returns-else-clashes-2 : goal.returns-else-clashes-2
-returns-else-clashes-2 c = (
-  along_free (table_in c.args.plan.now) c.args.k c.args.label c.loop-i.left c.loop-i.at c.loop-i.invariant 0 (omega arith) c.in_default.ensures,
-  sym c.if-clashes-2.ensures,
-)
+pub returns : goal.returns
+returns c =
+    let B = table_in c.args.plan.now in
+    let at = c.loop-i.at in
+    let so = c.loop-i.invariant in
+    rw c.then_some.ensures (some_if _ (Comes B c.args.k c.args.label) (not c.clashes-2.result) (Done at)
+    (λ calm. (along_free B c.args.k c.args.label c.loop-i.left at so 0 (omega arith) c.in_default.ensures, sym c.clashes-2.ensures ∙ not-true _ calm))
+    (λ dead. along_dead B c.args.k c.args.label c.loop-i.left at so (sym c.clashes-2.ensures ∙ not-false _ dead)))

@@ -3,4 +3,4 @@ use Rattle.expand.proofs.Choosing.{weight_few}
 use Rattle.expand.proofs.next_label.Goals as goal
 
 pub overflow_add-result : goal.overflow_add-result
-overflow_add-result c = omega (arith, c.in-Some.ensures.1, weight_few c.args.plan.now.width c.args.plan.now.few)
+overflow_add-result c = omega (arith, c.in_ok-label.ensures.1, weight_few c.args.plan.now.width c.args.plan.now.few)
