@@ -1,13 +1,12 @@
 -- The nodes of a search: what they stand for, when they are fit for a task, and what a step makes of them.
-use Rattle.std.specs.Prelude.{◌≡◌, ℕ, zero, suc, ◌+◌, ◌*◌, ◌^◌, ◌<◌, ◌≤◌, true, false, cond, List, [], ◌∷◌, ◌++◌, map, length, get_or, take, Some, None, Option, ◌==◌, nat_lt, slice_index_or}
+use Rattle.std.specs.Prelude.{◌≡◌, ℕ, zero, suc, ◌+◌, ◌*◌, ◌^◌, ◌<◌, ◌≤◌, true, false, cond, List, [], ◌∷◌, ◌++◌, map, length, get_or, take, Some, None, Option, Ok, Err, Result, ◌==◌, nat_lt, slice_index_or}
 use Rattle.tableau.specs.declared.Label.{Label}
 use Rattle.tableau.specs.Labels.{any_contains, lowest}
 use Rattle.tableau.specs.Search.{Outcome, failed, full, stands, Searcher, or_else, and_then}
 use Rattle.search.specs.declared.Node.{Node}
 use Rattle.search.specs.declared.Task.{Task}
 use Rattle.search.specs.declared.Task.TheVariants.{Go, Fail, Try}
-use Rattle.search.specs.declared.Answer.{Answer}
-use Rattle.search.specs.declared.Answer.TheVariants.{Failed, Full, Stands}
+use Rattle.search.specs.declared.NoRoom.{NoRoom}
 use Rattle.search.specs.declared.Step.{Step}
 use Rattle.search.specs.declared.Step.TheVariants.{More, Over}
 use Rattle.search.specs.Games.{Game, run_seeds, try_all, explore_by}
@@ -100,10 +99,10 @@ pub record Went (G : Game) (was : List Node) (m : ℕ) (t : Task) (is : List Nod
 
 -- the answer, with the nodes left, is what the search comes to: where it failed every node is blank, and where it stands
 -- the first nodes have the labels that stand, and the others are blank
-abbrev pub Says : List Node → Answer → Outcome → Type 0
-Says nodes Failed v = (v ≡ failed) × BlankFrom 0 nodes
-Says nodes Full v = v ≡ full
-Says nodes (Stands m) v = (v ≡ stands (labels (take m nodes))) × (m ≤ length nodes) × BlankFrom m nodes
+abbrev pub Says : List Node → Result (Option ℕ) NoRoom → Outcome → Type 0
+Says nodes (Ok None) v = (v ≡ failed) × BlankFrom 0 nodes
+Says nodes (Err e) v = v ≡ full
+Says nodes (Ok (Some m)) v = (v ≡ stands (labels (take m nodes))) × (m ≤ length nodes) × BlankFrom m nodes
 
 abbrev pub Moves : Game → List Node → ℕ → Task → List Node → Step → Type 0
 Moves G was m t is (More k u) = Went G was m t is k u

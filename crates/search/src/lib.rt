@@ -6,6 +6,8 @@ ghost use Rattle.tableau.specs.Labels.{contains};
 ghost use Rattle.search.specs.Games.{Game, Bounded, Leads, explore_by, told};
 ghost use Rattle.search.specs.Nodes.{blank, labels, LowestIn, NewestIn, Fit, Moves, Says};
 
+use std::error::Error;
+use std::fmt;
 use tableau::Label;
 
 // What a search asks: the expansions of a seed, one after another by choice words, and the seeds of the successors that
@@ -45,13 +47,17 @@ impl Node {
     };
 }
 
-// What a search comes to; where it stands, the first so many nodes are the individuals of a world.
-#[derive(Clone, Copy)]
-pub enum Answer {
-    Failed,
-    Full,
-    Stands(usize),
+// The lent nodes do not suffice, so that nothing is known.
+#[derive(Clone, Copy, PartialEq, Eq, Debug)]
+pub struct NoRoom;
+
+impl fmt::Display for NoRoom {
+    fn fmt<W: fmt::Write>(&self, f: &mut fmt::Formatter<W>) -> fmt::Result {
+        write!(f, "the lent nodes do not suffice")
+    }
 }
+
+impl Error for NoRoom {}
 
 // What is to be done next: go on at the current node, give up its label, or try the expansions of a seed from a choice
 // word on.
@@ -65,7 +71,7 @@ enum Task {
 #[derive(Clone, Copy)]
 enum Step {
     More(usize, Task),
-    Over(Answer),
+    Over(Result<Option<usize>, NoRoom>),
 }
 
 // Makes every node blank.
@@ -137,7 +143,7 @@ fn step_fail(nodes: &mut [Node], m: usize) -> Step
     match newest(nodes, m) {
         None => {
             wipe(nodes);
-            Step::Over(Answer::Failed)
+            Step::Over(Ok(None))
         }
         Some(p) => {
             let x = nodes[p];
@@ -154,7 +160,7 @@ fn step_go<S: Strategy>(strategy: &S, nodes: &mut [Node], m: usize) -> Step
     ensures { Moves (S.Strategy.game strategy.now) nodes.old m Task.Go nodes.new result }
 {
     match newest(nodes, m) {
-        None => Step::Over(Answer::Stands(m)),
+        None => Step::Over(Ok(Some(m))),
         Some(p) => {
             let x = nodes[p];
             match strategy.next_seed(x.label, x.next) {
@@ -168,7 +174,7 @@ fn step_go<S: Strategy>(strategy: &S, nodes: &mut [Node], m: usize) -> Step
                         Some(_) => Step::More(m, Task::Go),
                         None => {
                             if m == nodes.len() {
-                                Step::Over(Answer::Full)
+                                Step::Over(Err(NoRoom))
                             } else {
                                 Step::More(m, Task::Try(seed, 0))
                             }
@@ -191,8 +197,13 @@ fn advance<S: Strategy>(strategy: &S, nodes: &mut [Node], m: usize, task: Task) 
     }
 }
 
-// Searches from the seed in the lent nodes, as many as there are; what they held before does not matter.
-pub fn run<S: Strategy>(strategy: &S, nodes: &mut [Node], seed: Label) -> Answer
+// Searches from the seed in the lent nodes, as many as there are; what they held before does not matter. Where it stands,
+// the first so many nodes are the individuals of a world; `None` where it fails.
+pub fn run<S: Strategy>(
+    strategy: &S,
+    nodes: &mut [Node],
+    seed: Label,
+) -> Result<Option<usize>, NoRoom>
     ensures { Says nodes.new result (explore_by (S.Strategy.game strategy.now) (length nodes.old) (length nodes.old) [] seed) }
 {
     wipe(nodes);
@@ -200,12 +211,16 @@ pub fn run<S: Strategy>(strategy: &S, nodes: &mut [Node], seed: Label) -> Answer
 }
 
 // The same in nodes that are blank.
-pub fn run_in_blank<S: Strategy>(strategy: &S, nodes: &mut [Node], seed: Label) -> Answer
+pub fn run_in_blank<S: Strategy>(
+    strategy: &S,
+    nodes: &mut [Node],
+    seed: Label,
+) -> Result<Option<usize>, NoRoom>
     requires { nodes.old ≡ replicate (length nodes.old) blank }
     ensures { Says nodes.new result (explore_by (S.Strategy.game strategy.now) (length nodes.old) (length nodes.old) [] seed) }
 {
     if nodes.len() == 0 {
-        return Answer::Full;
+        return Err(NoRoom);
     }
     let mut m = 0;
     let mut task = Task::Try(seed, 0);
@@ -232,28 +247,28 @@ impl Drop for Workspace<'_> {
     }
 }
 
-// Whether a world comes of the seed, or `None` for want of room, in nodes that are blank and are so again after it. Only what
+// Whether a world comes of the seed, in nodes that are blank and are so again after it. Only what
 // the search wrote is wiped.
-pub fn tried<S: Strategy>(strategy: &S, nodes: &mut [Node], seed: Label) -> Option<bool>
+pub fn tried<S: Strategy>(strategy: &S, nodes: &mut [Node], seed: Label) -> Result<bool, NoRoom>
     requires { nodes.old ≡ replicate (length nodes.old) blank }
     ensures answer { result ≡ told (explore_by (S.Strategy.game strategy.now) (length nodes.old) (length nodes.old) [] seed) }
     ensures wiped { nodes.new ≡ replicate (length nodes.old) blank }
 {
     match run_in_blank(strategy, nodes, seed) {
-        Answer::Failed => Some(false),
-        Answer::Full => {
-            wipe(nodes);
-            None
-        }
-        Answer::Stands(m) => {
+        Ok(None) => Ok(false),
+        Ok(Some(m)) => {
             wipe(&mut nodes[0..m]);
-            Some(true)
+            Ok(true)
+        }
+        Err(e) => {
+            wipe(nodes);
+            Err(e)
         }
     }
 }
 
-// Whether a world comes of the seed, or `None` for want of room; every node is blank after it.
-pub fn has_world<S: Strategy>(strategy: &S, nodes: &mut [Node], seed: Label) -> Option<bool>
+// Whether a world comes of the seed; every node is blank after it.
+pub fn has_world<S: Strategy>(strategy: &S, nodes: &mut [Node], seed: Label) -> Result<bool, NoRoom>
     ensures answer { result ≡ told (explore_by (S.Strategy.game strategy.now) (length nodes.old) (length nodes.old) [] seed) }
     ensures wiped { nodes.new ≡ replicate (length nodes.old) blank }
 {
