@@ -1,14 +1,14 @@
 -- The first node whose label contains a seed.
 use Rattle.std.proofs.Common.{◌≡◌, ℕ, suc, ◌+◌, Bool, true, false, cond, not, ltb, List, [], ◌∷◌, length, Some, None, Option, refl, sym, ap, ◌∙◌, inl, inr, arith}
 use Rattle.std.specs.Option.{is_some}
-use Rattle.std.specs.List.{position_or_len, prefix_len}
+use Rattle.std.specs.List.{position_or_len}
 use Rattle.std.proofs.lemmas.Bool.{ltb-true, lt-ltb, le-ltb, cases_lt}
 use Rattle.std.proofs.lemmas.List.{length-map}
 use Rattle.std.proofs.lemmas.List.Recursion.{is_position_or_len}
 use Rattle.tableau.specs.declared.Label.{Label}
 use Rattle.tableau.specs.Labels.{contains, any_contains, lowest}
 use Rattle.search.specs.declared.Node.{Node}
-use Rattle.search.specs.Nodes.{label_of, labels, LowestIn}
+use Rattle.search.specs.Nodes.{labels, LowestIn}
 
 module _ (seed : Label) where
   abbrev pub holds : Node → Bool

@@ -2,7 +2,6 @@
 #![tactic(auto)]
 
 ghost use Rattle.std.specs.Prelude.{◌≡◌, ℕ, ◌<◌, ◌≤◌, [], length, replicate};
-ghost use Rattle.tableau.specs.Labels.{contains};
 ghost use Rattle.search.specs.Games.{Game, Bounded, Leads, explore_by, told};
 ghost use Rattle.search.specs.Nodes.{blank, labels, LowestIn, NewestIn, Go, Fail, Fit, Lacks, Retreats, Says};
 
@@ -45,8 +44,8 @@ pub struct Node {
 
 impl Node {
     pub const BLANK: Node = Node {
-        seed: Label { plus: 0, minus: 0 },
-        label: Label { plus: 0, minus: 0 },
+        seed: Label::EMPTY,
+        label: Label::EMPTY,
         waiting: None,
     };
 }
@@ -70,18 +69,11 @@ pub fn wipe(nodes: &mut [Node])
     nodes.fill(Node::BLANK);
 }
 
-// Whether every signed entry of the seed is in the label.
-fn holds(label: Label, seed: Label) -> bool
-    ensures { result ≡ contains label seed }
-{
-    words::subset(seed.plus, label.plus) && words::subset(seed.minus, label.minus)
-}
-
 // The first of the nodes whose label contains the seed.
 pub fn lowest(nodes: &[Node], seed: Label) -> Option<usize>
     ensures { LowestIn (labels nodes.now) seed result }
 {
-    nodes.iter().position(|x| holds(x.label, seed))
+    nodes.iter().position(|x| x.label.contains(seed))
 }
 
 // The newest of the nodes that waits, and where it goes on.
@@ -101,8 +93,11 @@ fn lacking<S: Strategy>(strategy: &S, nodes: &mut [Node], m: usize) -> Result<Op
     while let Some((p, Waiting { choice, next })) = newest(&nodes[..m]) {
         match strategy.next_seed(nodes[p].label, next) {
             None => nodes[p].waiting = None,
-            Some((seed, next)) => {
-                nodes[p].waiting = Some(Waiting { choice, next });
+            Some((seed, after)) => {
+                nodes[p].waiting = Some(Waiting {
+                    choice,
+                    next: after,
+                });
                 if lowest(&nodes[..m], seed).is_none() {
                     if m == nodes.len() {
                         return Err(NoRoom);
@@ -195,8 +190,7 @@ impl Drop for Workspace<'_> {
     }
 }
 
-// Whether a world comes of the seed, in nodes that are blank and are so again after it. Only what
-// the search wrote is wiped.
+// Whether a world comes of the seed, in nodes that are blank and are so again after it. Only what the search wrote is wiped.
 pub fn tried<S: Strategy>(strategy: &S, nodes: &mut [Node], seed: Label) -> Result<bool, NoRoom>
     requires { nodes.old ≡ replicate (length nodes.old) blank }
     ensures answer { result ≡ told (explore_by (S.Strategy.game strategy.now) (length nodes.old) (length nodes.old) [] seed) }
@@ -205,7 +199,7 @@ pub fn tried<S: Strategy>(strategy: &S, nodes: &mut [Node], seed: Label) -> Resu
     match run_in_blank(strategy, nodes, seed) {
         Ok(None) => Ok(false),
         Ok(Some(m)) => {
-            wipe(&mut nodes[0..m]);
+            wipe(&mut nodes[..m]);
             Ok(true)
         }
         Err(e) => {

@@ -24,7 +24,7 @@ returns-then-m-nodes g c =
     let i = c.loop-p.invariant.fit in
     sym (ap (λ n. value (g.S.Strategy.game s) n c.args.nodes.now c.args.m Go) c.loop-p.invariant.long) ∙ sym c.loop-p.invariant.kept
     ∙ without_room (g.S.Strategy.game s) (g.S.Strategy.few s) c.loop-p.nodes c.args.m i.within i.blanks _ _ c.in-Some.ensures
-    c.in-Some-next_seed.seed c.in-Some-next_seed.next c.in-Some-next_seed.ensures (any_held _ _ _ c.lowest.ensures ∙ c.if-is_none.ensures) (omega (arith, simp length-set at c.if-m-nodes.true))
+    c.in-Some-next_seed.seed c.in-Some-next_seed.after c.in-Some-next_seed.ensures (any_held _ _ _ c.lowest.ensures ∙ c.if-is_none.ensures) (omega (arith, simp length-set at c.if-m-nodes.true))
 
 pub returns-then-is_none : goal.returns-then-is_none
 returns-then-is_none g c =
@@ -32,14 +32,14 @@ returns-then-is_none g c =
     let i = c.loop-p.invariant.fit in
     along_to (g.S.Strategy.game s) c.args.nodes.now c.args.m c.loop-p.nodes _ c.loop-p.invariant _ _
     (went_down (g.S.Strategy.game s) (g.S.Strategy.few s) c.loop-p.nodes c.args.m i.within i.blanks _ _ c.in-Some.ensures
-    c.in-Some-next_seed.seed c.in-Some-next_seed.next c.in-Some-next_seed.ensures (any_held _ _ _ c.lowest.ensures ∙ c.if-is_none.ensures) (omega (arith, simp length-set at c.if-m-nodes.false)))
+    c.in-Some-next_seed.seed c.in-Some-next_seed.after c.in-Some-next_seed.ensures (any_held _ _ _ c.lowest.ensures ∙ c.if-is_none.ensures) (omega (arith, simp length-set at c.if-m-nodes.false)))
 
 pub loop-p-smaller : goal.loop-p-smaller
 loop-p-smaller g c =
     let s = c.args.strategy.now in
     let i = c.loop-p.invariant.fit in
     rw length-set (went_on (g.S.Strategy.game s) (g.S.Strategy.few s) c.loop-p.nodes c.args.m i.within i.blanks _ _ c.in-Some.ensures
-    c.in-Some-next_seed.seed c.in-Some-next_seed.next c.in-Some-next_seed.ensures (any_held _ _ _ c.lowest.ensures ∙ c.if-is_none.ensures)).falls
+    c.in-Some-next_seed.seed c.in-Some-next_seed.after c.in-Some-next_seed.ensures (any_held _ _ _ c.lowest.ensures ∙ c.if-is_none.ensures)).falls
 
 pub loop-p-preserved : goal.loop-p-preserved
 loop-p-preserved g c =
@@ -47,14 +47,14 @@ loop-p-preserved g c =
     let i = c.loop-p.invariant.fit in
     along_more (g.S.Strategy.game s) c.args.nodes.now c.args.m c.loop-p.nodes _ c.loop-p.invariant (rw length-set refl)
     (went_on (g.S.Strategy.game s) (g.S.Strategy.few s) c.loop-p.nodes c.args.m i.within i.blanks _ _ c.in-Some.ensures
-    c.in-Some-next_seed.seed c.in-Some-next_seed.next c.in-Some-next_seed.ensures (any_held _ _ _ c.lowest.ensures ∙ c.if-is_none.ensures))
+    c.in-Some-next_seed.seed c.in-Some-next_seed.after c.in-Some-next_seed.ensures (any_held _ _ _ c.lowest.ensures ∙ c.if-is_none.ensures))
 
 pub returns : goal.returns
 returns g c =
     let i = c.loop-p.invariant.fit in (
       sym (ap (λ n. value (g.S.Strategy.game c.args.strategy.now) n c.args.nodes.now c.args.m Go) c.loop-p.invariant.long) ∙ sym c.loop-p.invariant.kept
-      ∙ done_go (g.S.Strategy.game c.args.strategy.now) (length c.loop-p.nodes) c.loop-p.nodes c.args.m i.within
-      (newest_none c.loop-p.nodes c.args.m i.within c.in_default.ensures),
+          ∙ done_go (g.S.Strategy.game c.args.strategy.now) (length c.loop-p.nodes) c.loop-p.nodes c.args.m i.within
+          (newest_none c.loop-p.nodes c.args.m i.within c.in_default.ensures),
       i.within,
       i.blanks,
     )

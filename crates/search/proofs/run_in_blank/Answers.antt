@@ -1,7 +1,7 @@
 use Rattle.std.proofs.Common.{◌≡◌, ◌+◌, [], length, Some, None, Ok, refl, sym, ap, ◌∙◌, subst, arith, length-set}
 use Rattle.std.proofs.lemmas.Bool.{eqb-true}
 use Rattle.search.specs.Games.{explore_by}
-use Rattle.search.specs.Nodes.{Try, value, Says}
+use Rattle.search.specs.Nodes.{Try, Says}
 use Rattle.search.proofs.Steps.{began, no_room, turn_kept, turn_falls, went_none, went_new}
 use Rattle.search.proofs.run_in_blank.Goals as goal
 

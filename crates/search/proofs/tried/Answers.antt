@@ -1,5 +1,4 @@
 use Rattle.std.proofs.Common.{length, arith}
-use native.Mathlib.Nat.{sub-zero}
 use Rattle.search.proofs.Steps.{all_blank, blank_front}
 use Rattle.search.proofs.tried.Goals as goal
 
@@ -11,5 +10,4 @@ returns-in-Ok-None-clause-wiped g c =
 pub returns-in-Ok-Some-clause-wiped : goal.returns-in-Ok-Some-clause-wiped
 returns-in-Ok-Some-clause-wiped g c =
     let e = simp c.in-Ok-Some.field-0-is at c.in-Ok-Some.ensures in
-    simp sub-zero (blank_front (length c.args.nodes.now) c.in-Ok-Some.m c.run_in_blank.new.nodes c.wipe.new.nodes
-    (omega arith) e.1 e.2 (simp sub-zero at c.wipe.ensures))
+    blank_front (length c.args.nodes.now) c.in-Ok-Some.m c.run_in_blank.new.nodes c.wipe.new.nodes (omega arith) e.1 e.2 c.wipe.ensures
