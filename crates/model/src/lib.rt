@@ -10,7 +10,7 @@ ghost use Rattle.search.specs.Nodes.{blank, Says};
 ghost use Rattle.model.specs.Games.{game_in, game_bounded};
 
 use plan::Plan;
-use search::{Answer, Node, Strategy};
+use search::{NoRoom, Node, Strategy};
 use tableau::Label;
 
 // A plan as what a search asks.
@@ -32,15 +32,15 @@ impl<'p> Strategy for Planned<'p> {
 }
 
 // Searches from the seed in the lent nodes. Where it stands, the labels of the first so many nodes are the standing list,
-// and the other nodes are blank; where it fails, every node is blank.
-pub fn find(plan: &Plan, nodes: &mut [Node], seed: Label) -> Answer
+// and the other nodes are blank; where it fails, the answer is `None` and every node is blank.
+pub fn find(plan: &Plan, nodes: &mut [Node], seed: Label) -> Result<Option<usize>, NoRoom>
     ensures { Says nodes.new result (explore (box_in plan.now) (table_in plan.now) (length nodes.old) (length nodes.old) [] seed) }
 {
     search::run(&Planned(plan), nodes, seed)
 }
 
-// Whether a world comes of the seed, or `None` for want of room; every node is blank after it.
-pub fn has_world(plan: &Plan, nodes: &mut [Node], seed: Label) -> Option<bool>
+// Whether a world comes of the seed; every node is blank after it.
+pub fn has_world(plan: &Plan, nodes: &mut [Node], seed: Label) -> Result<bool, NoRoom>
     ensures answer { result ≡ told (explore (box_in plan.now) (table_in plan.now) (length nodes.old) (length nodes.old) [] seed) }
     ensures wiped { nodes.new ≡ replicate (length nodes.old) blank }
 {
@@ -48,7 +48,7 @@ pub fn has_world(plan: &Plan, nodes: &mut [Node], seed: Label) -> Option<bool>
 }
 
 // The same as `find`, in nodes that are blank.
-pub fn find_in_blank(plan: &Plan, nodes: &mut [Node], seed: Label) -> Answer
+pub fn find_in_blank(plan: &Plan, nodes: &mut [Node], seed: Label) -> Result<Option<usize>, NoRoom>
     requires { nodes.old ≡ replicate (length nodes.old) blank }
     ensures { Says nodes.new result (explore (box_in plan.now) (table_in plan.now) (length nodes.old) (length nodes.old) [] seed) }
 {
@@ -56,7 +56,7 @@ pub fn find_in_blank(plan: &Plan, nodes: &mut [Node], seed: Label) -> Answer
 }
 
 // The same as `has_world`, in nodes that are blank: only what the search wrote is wiped.
-pub fn tried(plan: &Plan, nodes: &mut [Node], seed: Label) -> Option<bool>
+pub fn tried(plan: &Plan, nodes: &mut [Node], seed: Label) -> Result<bool, NoRoom>
     requires { nodes.old ≡ replicate (length nodes.old) blank }
     ensures answer { result ≡ told (explore (box_in plan.now) (table_in plan.now) (length nodes.old) (length nodes.old) [] seed) }
     ensures wiped { nodes.new ≡ replicate (length nodes.old) blank }

@@ -1,13 +1,12 @@
 -- What is left to do falls with each step.
-use Rattle.std.proofs.Common.{◌≡◌, ℕ, zero, suc, ◌+◌, ◌-◌, ◌*◌, ◌^◌, ◌<◌, ◌≤◌, Bool, true, false, cond, eqb, ltb, ◌≢◌, List, ◌∷◌, length, get_or, set, sym, refl, ap, ◌∙◌, suc-add, zero-add, arith}
+use Rattle.std.proofs.Common.{◌≡◌, ℕ, zero, suc, ◌+◌, ◌-◌, ◌*◌, ◌^◌, ◌<◌, ◌≤◌, Bool, true, false, cond, eqb, ltb, ◌≢◌, List, ◌∷◌, length, get_or, set, sym, refl, ap, ◌∙◌, suc-add, zero-add, arith, Some, None, Option}
 use Rattle.std.proofs.lemmas.List.{get_or-set_same, get_or-set_other}
 use Rattle.std.proofs.lemmas.Bool.{cond-true, cond-false, lt-ltb, le-ltb, eq-eqb}
 use Rattle.tableau.specs.declared.Label.{Label}
 use Rattle.search.specs.declared.Node.{Node}
-use Rattle.search.specs.declared.Task.{Task}
-use Rattle.search.specs.declared.Task.TheVariants.{Go, Fail, Try}
+use Rattle.search.specs.declared.Waiting.{Waiting}
 use Rattle.search.specs.Games.{Game, Bounded}
-use Rattle.search.specs.Nodes.{blank, weigh, unused, digit, number, measure}
+use Rattle.search.specs.Nodes.{blank, Task, Go, Fail, Try, left, weigh, unused, digit, number, measure}
 use Rattle.search.proofs.Resume.{finish, again, fresh}
 
 same_front : (f g : ℕ → ℕ) (p : ℕ) → ((i : ℕ) → i < p → f i ≡ g i) → number f p ≡ number g p
@@ -48,14 +47,13 @@ module _ (G : Game) where
   unused_try s c m = cond-true _ _ _ (eq-eqb m m refl)
 
   module _ (B : Bounded G) where
+    left_small : (x : Node) (w : Option Waiting) → left G x w < 100 * 2 ^ 63 + 200
+    left_small x None = omega arith
+    left_small x (Some w) = omega (arith, B.labels_few x.seed w.choice, B.seeds_few x.label w.next)
+
     weigh_small : (x : Node) → weigh G x < 100 * 2 ^ 63 + 200
     unfolding weigh
-    weigh_small x =
-        let a = B.labels_few x.seed x.choice in
-        let b = B.seeds_few x.label x.next in
-        let c : cond x.done 0 (1 + length (G.seeds_from x.label x.next)) < 66 =
-        cond_less x.done 0 (1 + length (G.seeds_from x.label x.next)) 66 (omega arith) (omega arith) in
-        omega arith
+    weigh_small x = left_small x x.waiting
 
     unused_small : (t : Task) (m i : ℕ) → unused G t m i < 100 * 2 ^ 63 + 200
     unfolding unused
@@ -70,22 +68,20 @@ module _ (G : Game) where
     digit_small nodes m t i =
         cond_less (ltb i m) (weigh G (get_or nodes i blank)) (unused G t m i) (100 * 2 ^ 63 + 200) (weigh_small (get_or nodes i blank)) (unused_small t m i)
 
-    -- an obligation less
-    pub lighter_next : (x : Node) (t : Label) (q : ℕ) → x.done ≡ false → G.seeds_from x.label x.next ≡ t ∷ G.seeds_from x.label q
-        → weigh G (again x q) < weigh G x
-    unfolding weigh
-    lighter_next x t q w s =
-        let a = cond-false x.done 0 (1 + length (G.seeds_from x.label x.next)) w in
-        let b = cond-false x.done 0 (1 + length (G.seeds_from x.label q)) w in
-        let e : length (G.seeds_from x.label x.next) ≡ suc (length (G.seeds_from x.label q)) = ap length s in
-        omega arith
+    module _ (x : Node) (w : Waiting) (e : x.waiting ≡ Some w) where
+      weighs : weigh G x ≡ left G x (Some w)
+      unfolding weigh
+      weighs = ap (left G x) e
 
-    -- no obligation more
-    pub lighter_done : (x : Node) → x.done ≡ false → weigh G (finish x) < weigh G x
-    unfolding weigh
-    lighter_done x w =
-        let a = cond-false x.done 0 (1 + length (G.seeds_from x.label x.next)) w in
-        omega arith
+      -- an obligation less
+      pub lighter_next : (t : Label) (q : ℕ) → G.seeds_from x.label w.next ≡ t ∷ G.seeds_from x.label q → weigh G (again x w q) < weigh G x
+      unfolding weigh
+      lighter_next t q s = omega (arith, weighs, ap length s)
+
+      -- no obligation more
+      pub lighter_done : weigh G (finish x) < weigh G x
+      unfolding weigh
+      lighter_done = omega (arith, weighs)
 
     pub falls_write : (nodes : List Node) (p m : ℕ) (t u : Task) (y : Node) → p < m → m ≤ length nodes → weigh G y < weigh G (get_or nodes p blank)
         → measure G (length nodes) (set nodes p y) m u < measure G (length nodes) nodes m t
@@ -101,20 +97,21 @@ module _ (G : Game) where
         let there = digit_used nodes m t p h in
         number_less f g p (length nodes) lt front (omega arith) (digit_small (set nodes p y) m u)
 
-    pub falls_back : (nodes is : List Node) (m p : ℕ) → p < m → m ≤ length nodes → ((i : ℕ) → i < p → get_or is i blank ≡ get_or nodes i blank)
-        → measure G (length nodes) is p (Try (get_or nodes p blank).seed (get_or nodes p blank).choice) < measure G (length nodes) nodes m Fail
-    unfolding measure weigh
-    falls_back nodes is m p h k e =
+    pub falls_back : (nodes is : List Node) (m p : ℕ) (v : Waiting) → p < m → m ≤ length nodes → (get_or nodes p blank).waiting ≡ Some v
+        → ((i : ℕ) → i < p → get_or is i blank ≡ get_or nodes i blank)
+        → measure G (length nodes) is p (Try (get_or nodes p blank).seed v.choice) < measure G (length nodes) nodes m Fail
+    unfolding measure
+    falls_back nodes is m p v h k w e =
         let x = get_or nodes p blank in
-        let u = Try x.seed x.choice in
+        let u = Try x.seed v.choice in
         let f = digit G is p u in
         let g = digit G nodes m Fail in
         let front : (i : ℕ) → i < p → f i ≡ g i = λ i a.
         digit_used is p u i a ∙ ap (weigh G) (e i a) ∙ sym (digit_used nodes m Fail i (omega arith)) in
-        let here : f p ≡ length (G.labels_from x.seed x.choice) * 100 + 1 =
-        digit_unused is p u p (omega arith) ∙ unused_try x.seed x.choice p in
+        let here : f p ≡ length (G.labels_from x.seed v.choice) * 100 + 1 =
+        digit_unused is p u p (omega arith) ∙ unused_try x.seed v.choice p in
         let there = digit_used nodes m Fail p h in
-        number_less f g p (length nodes) (omega arith) front (omega arith) (digit_small is p u)
+        number_less f g p (length nodes) (omega arith) front (omega (arith, here, there, weighs x v w)) (digit_small is p u)
 
     pub falls_none : (nodes : List Node) (m : ℕ) (s : Label) (c : ℕ) → m < length nodes
         → measure G (length nodes) nodes m Fail < measure G (length nodes) nodes m (Try s c)

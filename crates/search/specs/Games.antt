@@ -1,7 +1,8 @@
 -- What a search asks of its strategy, and the search over it as a recursion.
-use Rattle.std.specs.Prelude.{◌≡◌, ℕ, zero, suc, ◌^◌, ◌≤◌, Bool, true, false, cond, List, [], ◌∷◌, ◌++◌, length, Some, None, Option, nat_le}
+use Rattle.std.specs.Prelude.{◌≡◌, ℕ, zero, suc, ◌^◌, ◌≤◌, Bool, true, false, cond, List, [], ◌∷◌, ◌++◌, length, Some, None, Option, Ok, Err, Result, nat_le}
 use Rattle.tableau.specs.declared.Label.{Label}
 use Rattle.tableau.specs.Labels.{any_contains}
+use Rattle.search.specs.declared.NoRoom.{NoRoom}
 use Rattle.tableau.specs.Search.{Outcome, failed, full, stands, Searcher, or_else, and_then, reuse}
 
 -- the expansions of a seed from a choice word on, and the seeds of the obligations of a label from an entry on
@@ -36,7 +37,7 @@ module _ (G : Game) where
   explore_by n (suc k) st seed = cond (nat_le n (length st)) full (try_all (explore_by n k) (G.labels_from seed 0) st)
 
 -- does a world come of it: yes, no, or unknown for want of room
-abbrev pub told : Outcome → Option Bool
-told failed = Some false
-told full = None
-told (stands ls) = Some true
+abbrev pub told : Outcome → Result Bool NoRoom
+told failed = Ok false
+told full = Err (record {})
+told (stands ls) = Ok true

@@ -1,19 +1,15 @@
 -- The nodes of a search: what they stand for, when they are fit for a task, and what a step makes of them.
-use Rattle.std.specs.Prelude.{◌≡◌, ℕ, zero, suc, ◌+◌, ◌*◌, ◌^◌, ◌<◌, ◌≤◌, true, false, cond, List, [], ◌∷◌, ◌++◌, map, length, get_or, take, Some, None, Option, ◌==◌, nat_lt, slice_index_or}
+use Rattle.std.specs.Prelude.{◌≡◌, ℕ, zero, suc, ◌+◌, ◌*◌, ◌^◌, ◌<◌, ◌≤◌, true, false, cond, List, [], ◌∷◌, ◌++◌, map, length, get_or, take, Some, None, Option, Ok, Err, Result, ◌==◌, nat_lt, slice_index_or}
 use Rattle.tableau.specs.declared.Label.{Label}
 use Rattle.tableau.specs.Labels.{any_contains, lowest}
 use Rattle.tableau.specs.Search.{Outcome, failed, full, stands, Searcher, or_else, and_then}
 use Rattle.search.specs.declared.Node.{Node}
-use Rattle.search.specs.declared.Task.{Task}
-use Rattle.search.specs.declared.Task.TheVariants.{Go, Fail, Try}
-use Rattle.search.specs.declared.Answer.{Answer}
-use Rattle.search.specs.declared.Answer.TheVariants.{Failed, Full, Stands}
-use Rattle.search.specs.declared.Step.{Step}
-use Rattle.search.specs.declared.Step.TheVariants.{More, Over}
+use Rattle.search.specs.declared.Waiting.{Waiting}
+use Rattle.search.specs.declared.NoRoom.{NoRoom}
 use Rattle.search.specs.Games.{Game, run_seeds, try_all, explore_by}
 
 abbrev pub blank : Node
-blank = record { seed = record { plus = 0; minus = 0 }; label = record { plus = 0; minus = 0 }; choice = 0; next = 0; done = false }
+blank = record { seed = record { plus = 0; minus = 0 }; label = record { plus = 0; minus = 0 }; waiting = None }
 
 abbrev pub label_of : Node → Label
 label_of x = x.label
@@ -28,24 +24,35 @@ LowestIn ls seed (Some k) = (any_contains ls seed ≡ true) × (k ≡ lowest ls 
 
 -- the nodes from p on, up to m, are done
 abbrev pub DoneFrom : ℕ → ℕ → List Node → Type 0
-DoneFrom p m nodes = (k : ℕ) → p ≤ k → k < m → (get_or nodes k blank).done ≡ true
+DoneFrom p m nodes = (k : ℕ) → p ≤ k → k < m → (get_or nodes k blank).waiting ≡ None
 
--- the newest of the first m nodes that is not done
-abbrev pub NewestIn : List Node → ℕ → Option ℕ → Type 0
-NewestIn nodes m None = DoneFrom 0 m nodes
-NewestIn nodes m (Some p) = (p < m) × ((get_or nodes p blank).done ≡ false) × DoneFrom (p + 1) m nodes
+-- the newest of the nodes that waits
+abbrev pub NewestIn : List Node → Option (ℕ × Waiting) → Type 0
+NewestIn nodes None = DoneFrom 0 (length nodes) nodes
+NewestIn nodes (Some p) =
+    (p.0 < length nodes) × ((get_or nodes p.0 blank).waiting ≡ Some p.1) × DoneFrom (p.0 + 1) (length nodes) nodes
+
+-- what is to be done next: go on at the newest waiting node, give up its label, or try the expansions of a seed from a
+-- choice word on
+pub data Task : Type 0 where
+  Go Fail : Task
+  Try : Label → ℕ → Task
 
 module _ (G : Game) where
-  -- o is what an obligation of x came to, and st is what stood before x
-  unfoldable pub plug : Searcher → Node → List Label → Outcome → Outcome
-  plug W x st o =
-      or_else (and_then o (run_seeds W (G.seeds_from x.label x.next))) (λ u. try_all G W (G.labels_from x.seed x.choice) st)
+  -- o is what an obligation of x came to, which waits at w, and st is what stood before x
+  unfoldable pub plug : Searcher → Node → Waiting → List Label → Outcome → Outcome
+  plug W x w st o =
+      or_else (and_then o (run_seeds W (G.seeds_from x.label w.next))) (λ u. try_all G W (G.labels_from x.seed w.choice) st)
 
-  -- o is what the newest of the nodes xs came to, and st is what stood before them: each node that is not done goes on
+  -- a node that is done hands on what its obligations came to
+  abbrev pub hand_on : Searcher → Node → Option Waiting → List Label → Outcome → Outcome
+  hand_on W x None st o = o
+  hand_on W x (Some w) st o = plug W x w st o
+
+  -- o is what the newest of the nodes xs came to, and st is what stood before them: each node that waits goes on
   unfoldable pub resume : Searcher → List Label → List Node → Outcome → Outcome
   resume W st [] o = o
-  resume W st (x ∷ xs) o =
-      cond x.done (resume W (st ++ x.label ∷ []) xs o) (plug W x st (resume W (st ++ x.label ∷ []) xs o))
+  resume W st (x ∷ xs) o = hand_on W x x.waiting st (resume W (st ++ x.label ∷ []) xs o)
 
   -- what the task comes to by itself, where the labels st stand
   unfoldable pub gives : Searcher → List Label → Task → Outcome
@@ -59,8 +66,12 @@ module _ (G : Game) where
       resume (explore_by G n n) [] (take m nodes) (gives (explore_by G n n) (labels (take m nodes)) t)
 
   -- what is left to do, as a number of n digits in base 100 * 2 ^ 63 + 200, one for each node
+  abbrev pub left : Node → Option Waiting → ℕ
+  left x None = 0
+  left x (Some w) = length (G.labels_from x.seed w.choice) * 100 + 2 + length (G.seeds_from x.label w.next)
+
   unfoldable pub weigh : Node → ℕ
-  weigh x = length (G.labels_from x.seed x.choice) * 100 + 2 + cond x.done 0 (1 + length (G.seeds_from x.label x.next))
+  weigh x = left x x.waiting
 
   unfoldable pub unused : Task → ℕ → ℕ → ℕ
   unused Go m i = 100 * 2 ^ 63 + 199
@@ -100,11 +111,18 @@ pub record Went (G : Game) (was : List Node) (m : ℕ) (t : Task) (is : List Nod
 
 -- the answer, with the nodes left, is what the search comes to: where it failed every node is blank, and where it stands
 -- the first nodes have the labels that stand, and the others are blank
-abbrev pub Says : List Node → Answer → Outcome → Type 0
-Says nodes Failed v = (v ≡ failed) × BlankFrom 0 nodes
-Says nodes Full v = v ≡ full
-Says nodes (Stands m) v = (v ≡ stands (labels (take m nodes))) × (m ≤ length nodes) × BlankFrom m nodes
+abbrev pub Says : List Node → Result (Option ℕ) NoRoom → Outcome → Type 0
+Says nodes (Ok None) v = (v ≡ failed) × BlankFrom 0 nodes
+Says nodes (Err e) v = v ≡ full
+Says nodes (Ok (Some m)) v = (v ≡ stands (labels (take m nodes))) × (m ≤ length nodes) × BlankFrom m nodes
 
-abbrev pub Moves : Game → List Node → ℕ → Task → List Node → Step → Type 0
-Moves G was m t is (More k u) = Went G was m t is k u
-Moves G was m t is (Over o) = Says is o (value G (length was) was m t)
+-- the first m nodes went on to a seed that wants a further node, or until none waits
+abbrev pub Lacks : Game → List Node → ℕ → List Node → Result (Option Label) NoRoom → Type 0
+Lacks G was m is (Ok (Some s)) = Went G was m Go is m (Try s 0)
+Lacks G was m is (Ok None) = Says is (Ok (Some m)) (value G (length was) was m Go)
+Lacks G was m is (Err e) = Says is (Err e) (value G (length was) was m Go)
+
+-- a label was given up, or none was left to give up
+abbrev pub Retreats : Game → List Node → ℕ → List Node → Option (ℕ × Label × ℕ) → Type 0
+Retreats G was m is (Some b) = Went G was m Fail is b.0 (Try b.1 b.2)
+Retreats G was m is None = Says is (Ok None) (value G (length was) was m Fail)
