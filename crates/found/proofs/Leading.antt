@@ -1,5 +1,5 @@
 -- Where the obligations of a node lead, as sets.
-use Rattle.std.proofs.Common.{◌≡◌, ℕ, suc, ◌+◌, ◌^◌, ◌<◌, ◌≤◌, Bool, true, false, ◌&&◌, eqb, ltb, List, [], ◌∷◌, length, get_or, sym, refl, ap, ◌∙◌, ⊎_elim, arith}
+use Rattle.std.proofs.Common.{◌≡◌, ℕ, suc, ◌+◌, ◌^◌, ◌<◌, ◌≤◌, Bool, true, false, ◌&&◌, eqb, ltb, List, [], ◌∷◌, length, get_or, sym, refl, ap, ◌∙◌, ⊎_elim, arith, None, Some}
 use lib.Bits.{bit_or}
 use Rattle.std.proofs.lemmas.List.{length-map, get_or-map}
 use Rattle.std.proofs.lemmas.Bool.{cases_Bool, both_ways, cond-true, cond-false, ne_eqb}
@@ -8,7 +8,7 @@ use Rattle.words.specs.Sets.{has, set_of}
 use Rattle.words.proofs.Words.{set_is}
 use Rattle.meaning.specs.Bounded.{any}
 use Rattle.tableau.specs.declared.Label.{Label}
-use Rattle.tableau.specs.declared.Obligation.TheVariants.{Idle, Wants}
+use Rattle.tableau.specs.declared.Demand.{Demand}
 use Rattle.tableau.specs.Labels.{empty, contains, any_contains, lowest}
 use Rattle.tableau.specs.Seeds.{obliged_at, seed_of}
 use Rattle.tableau.specs.Found.{leads, edge}
@@ -52,25 +52,25 @@ module _ (nodes : List Node) (seed : Label) (few : length nodes ≤ 64) where
 
 module _ (p : Plan) (ls : List Label) (l : Label) (m i t : ℕ) (few : m ≤ 64) where
   -- an entry with no obligation leads nowhere
-  pub led_idle : obliged_at (table_in p) l i ≡ Idle → 0 ≡ set_of m (leads_in p ls l i t)
+  pub led_idle : obliged_at (table_in p) l i ≡ None → 0 ≡ set_of m (leads_in p ls l i t)
   unfolding leads
   led_idle e = empty_set m (leads_in p ls l i t) few (λ y _. ap (λ o. leads (box_in p) (table_in p) ls l o t y) e)
 
-  module _ (r : ℕ) (s : Bool) (a : ℕ) (e : obliged_at (table_in p) l i ≡ Wants r s a) where
+  module _ (d : Demand) (e : obliged_at (table_in p) l i ≡ Some d) where
     -- nor does one whose role is not below t
-    pub led_other : (box_in p).below r t ≡ false → 0 ≡ set_of m (leads_in p ls l i t)
+    pub led_other : (box_in p).below d.role t ≡ false → 0 ≡ set_of m (leads_in p ls l i t)
     unfolding leads
     led_other n =
         empty_set m (leads_in p ls l i t) few
-        (λ y _. ap (λ o. leads (box_in p) (table_in p) ls l o t y) e ∙ ap (λ b. b && eqb (lowest ls (seed_of (box_in p) (table_in p) l r s a)) y) n)
+        (λ y _. ap (λ o. leads (box_in p) (table_in p) ls l o t y) e ∙ ap (λ b. b && eqb (lowest ls (seed_of (box_in p) (table_in p) l d.role d.sign d.part)) y) n)
 
     -- else it leads to the lowest node that contains the seed
-    pub led_there : (seed : Label) (w : ℕ) → (box_in p).below r t ≡ true → seed ≡ seed_of (box_in p) (table_in p) l r s a → w ≡ set_of m (is_lowest ls seed)
+    pub led_there : (seed : Label) (w : ℕ) → (box_in p).below d.role t ≡ true → seed ≡ seed_of (box_in p) (table_in p) l d.role d.sign d.part → w ≡ set_of m (is_lowest ls seed)
         → w ≡ set_of m (leads_in p ls l i t)
     unfolding leads
     led_there seed w b f is =
         is ∙ set_same m (is_lowest ls seed) (leads_in p ls l i t)
-        (λ y _. ap (λ k. eqb (lowest ls k) y) f ∙ sym (ap (λ o. leads (box_in p) (table_in p) ls l o t y) e ∙ ap (λ c. c && eqb (lowest ls (seed_of (box_in p) (table_in p) l r s a)) y) b))
+        (λ y _. ap (λ k. eqb (lowest ls k) y) f ∙ sym (ap (λ o. leads (box_in p) (table_in p) ls l o t y) e ∙ ap (λ c. c && eqb (lowest ls (seed_of (box_in p) (table_in p) l d.role d.sign d.part)) y) b))
 
 -- where the entries below n lead
 abbrev pub led_to : Plan → List Label → Label → ℕ → ℕ → ℕ → Bool

@@ -7,7 +7,7 @@ ghost use Rattle.found.specs.Rows.{RowsOf};
 
 use plan::Plan;
 use search::Node;
-use tableau::{Label, Obligation};
+use tableau::Label;
 
 // The lowest node whose label contains the seed, as a set: empty where there is none.
 fn holder(nodes: &[Node], seed: Label) -> u64
@@ -28,16 +28,13 @@ fn led(plan: &Plan, nodes: &[Node], label: Label, t: usize, i: usize) -> u64
     ensures { result ≡ set_of (length nodes.now) (leads_in plan.now (labels nodes.now) label i t) }
 {
     match successor::obligation_at(plan, label, i) {
-        Obligation::Idle => 0,
-        Obligation::Wants(r, sign, a) => {
-            if words::member(plan.rows[r as usize], t) {
-                return holder(
-                    nodes,
-                    successor::seed(plan, label, r as usize, sign, a as usize),
-                );
-            }
-            0
+        Some(d) if words::member(plan.rows[d.role as usize], t) => {
+            holder(
+                nodes,
+                successor::seed(plan, label, d.role as usize, d.sign, d.part as usize),
+            )
         }
+        _ => 0,
     }
 }
 

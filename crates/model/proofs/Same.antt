@@ -4,12 +4,12 @@ use mathlib.Core.Bool.{Bool, true, false, cond}
 use mathlib.Core.List.{List, [], ◌∷◌, ◌++◌}
 use Prim.Native.Nat.{ℕ, zero, suc, ◌<◌}
 use native.Mathlib.Nat.{sub-zero}
+use Rattle.std.specs.Prelude.{Option, None, Some}
 use lib.Dec.{leb}
 use lib.ListN.{length}
 use Rattle.meaning.specs.Orders.{RoleBox}
 use Rattle.tableau.specs.declared.Label.{Label}
-use Rattle.tableau.specs.declared.Obligation.{Obligation}
-use Rattle.tableau.specs.declared.Obligation.TheVariants.{Idle, Wants}
+use Rattle.tableau.specs.declared.Demand.{Demand}
 use Rattle.tableau.specs.Labels.{any_contains}
 use Rattle.tableau.specs.Entries.{Table}
 use Rattle.tableau.specs.Expansions.{expansions}
@@ -30,10 +30,12 @@ module _ (H : RoleBox) (B : Table) where
   seeds_same sub l zero i st = refl
   seeds_same sub l (suc d) i st = go (obliged_at B l i) (λ ss. seeds_same sub l d (suc i) ss)
     where
-      go : (o : Obligation) → ((ss : List Label) → run_seeds sub (seeds_up H B l d (suc i)) ss ≡ meet_from H B sub l d (suc i) ss)
+      go : (o : Option Demand) → ((ss : List Label) → run_seeds sub (seeds_up H B l d (suc i)) ss ≡ meet_from H B sub l d (suc i) ss)
           → run_seeds sub (seed_before H B l o (seeds_up H B l d (suc i))) st ≡ and_then (pursue H B sub l o st) (meet_from H B sub l d (suc i))
-      go Idle rest = rest st
-      go (Wants r s a) rest = ap (and_then (reuse (any_contains st (seed_of H B l r s a)) sub st (seed_of H B l r s a))) (fun_ext rest)
+      go None rest = rest st
+      go (Some d) rest =
+          let seed = seed_of H B l d.role d.sign d.part in
+          ap (and_then (reuse (any_contains st seed) sub st seed)) (fun_ext rest)
 
   module _ (G : Game) (seeds : (l : Label) → G.seeds_from l 0 ≡ seeds_up H B l B.width 0) (labels : (s : Label) → G.labels_from s 0 ≡ expansions B s) where
     try_same : (sub : Searcher) (es st : List Label) → try_all G sub es st ≡ try_each H B sub st es

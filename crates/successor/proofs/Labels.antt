@@ -5,8 +5,7 @@ use Rattle.words.specs.Sets.{has, set_of}
 use Rattle.words.proofs.Words.{has_or, has_single, has_high, same_set, comprehends}
 use Rattle.tableau.specs.declared.Label.{Label}
 use Rattle.tableau.specs.Folds.{fold}
-use Rattle.tableau.specs.Labels.{in_label, put}
-use Rattle.successor.specs.Sets.{put_all}
+use Rattle.tableau.specs.Labels.{in_label, put, put_all}
 
 pub in_plus : (l : Label) (s : Bool) (i : ℕ) → s ≡ true → in_label l s i ≡ has l.plus i
 unfolding in_label
@@ -15,14 +14,6 @@ in_plus l s i e = rw e refl
 pub in_minus : (l : Label) (s : Bool) (i : ℕ) → s ≡ false → in_label l s i ≡ has l.minus i
 unfolding in_label
 in_minus l s i e = rw e refl
-
-pub put_plus : (l : Label) (s : Bool) (i w : ℕ) → s ≡ true → w ≡ bit_or l.plus (2 ^ i) → record { plus = w; minus = l.minus } ≡ put s i l
-unfolding put
-put_plus l s i w e f = rw (e, f) refl
-
-pub put_minus : (l : Label) (s : Bool) (i w : ℕ) → s ≡ false → w ≡ bit_or l.minus (2 ^ i) → record { plus = l.plus; minus = w } ≡ put s i l
-unfolding put
-put_minus l s i w e f = rw (e, f) refl
 
 less_than_power : (n : ℕ) → n < 2 ^ n
 less_than_power zero = omega arith

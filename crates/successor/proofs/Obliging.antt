@@ -1,69 +1,47 @@
 -- The seeds of a label's obligations, from one entry to the next.
-use Rattle.std.proofs.Common.{◌≡◌, ℕ, zero, suc, ◌+◌, ◌-◌, ◌<◌, ◌≤◌, Bool, true, false, cond, ◌&&◌, ◌||◌, ltb, [], ◌∷◌, length, sym, refl, ap, ◌∙◌, ⊎_elim, add-zero, add-one, arith}
-use Rattle.std.proofs.lemmas.Bool.{and_parts, and_cases, or_parts, both_ways, lt-ltb, ltb-true, cases_Bool, cond-true, cond-false}
+use Rattle.std.proofs.Common.{◌≡◌, ℕ, zero, suc, ◌+◌, ◌-◌, ◌<◌, ◌≤◌, Bool, true, false, cond, ◌&&◌, ◌||◌, ltb, [], ◌∷◌, length, sym, refl, ap, ◌∙◌, ⊎_elim, add-zero, add-one, arith, Option, None, Some, IfSome, MatchOption, option_map}
+use Rattle.std.proofs.lemmas.Bool.{and_parts, and_cases, or_parts, both_ways, lt-ltb, ltb-true, cond-false, cond_both}
 use Rattle.words.specs.Sets.{has}
 use Rattle.meaning.specs.Orders.{RoleBox}
 use Rattle.meaning.specs.declared.Concept.TheVariants.{Nothing, Everything, Name, Not, And, Or, Restriction}
 use Rattle.tableau.specs.declared.Label.{Label}
 use Rattle.tableau.specs.declared.Entry.{Entry}
 use Rattle.tableau.specs.declared.Entry.TheVariants.{Plain, Inclusion, Inclusions}
-use Rattle.tableau.specs.declared.Obligation.{Obligation}
-use Rattle.tableau.specs.declared.Obligation.TheVariants.{Idle, Wants}
+use Rattle.tableau.specs.declared.Demand.{Demand}
 use Rattle.tableau.specs.Entries.{Table, LowerEntry}
 use Rattle.tableau.specs.Labels.{in_label}
-use Rattle.tableau.specs.Seeds.{obliges, sign_of, obligation, obliged_at, role_of, seed_of}
+use Rattle.tableau.specs.Seeds.{obliges, sign_of, obligation, obliged_at, role_of, seed_of, wants}
 use Rattle.plan.specs.declared.Plan.{Plan}
-use Rattle.plan.specs.Meanings.{table_in}
 use Rattle.plan.specs.Plans.{listed_entry}
 use Rattle.plan.proofs.Lowered.{plan_lower}
 use Rattle.successor.specs.Sets.{NoneFrom, NextFrom}
 use Rattle.successor.specs.Obligations.{seed_before, seeds_up, seeds_from}
 use Rattle.successor.proofs.Labels.{in_plus, in_minus}
 
--- the role and the part of an obligation are those of the entry
-abbrev Inside : ℕ → ℕ → ℕ → Type 0
-Inside i r a = (r < 64) × (a < i)
+-- the role and the part of what an entry obliges to are members of words
+abbrev pub Inside : Demand → Type 0
+Inside d = (d.role < 64) × (d.part < 64)
 
-idle_not : (r : ℕ) (s : Bool) (a : ℕ) → Idle ≡ Wants r s a → ⊥
-idle_not r s a e = let z : ◌≡◌ {A = ℕ} 0 1 = cc in omega arith
+inside : (i : ℕ) (e : Entry) (u : Bool) → i < 64 → role_of e < 64 → LowerEntry i e → IfSome (obligation e u) Inside
+inside i (Plain Nothing) u l few low = tt
+inside i (Plain Everything) u l few low = tt
+inside i (Plain (Name n)) u l few low = tt
+inside i (Plain (Not b)) u l few low = tt
+inside i (Plain (And b d)) u l few low = tt
+inside i (Plain (Or b d)) u l few low = tt
+inside i (Plain (Restriction q t b)) u l few low =
+    cond_both (obliges q u) (wants t (sign_of q u) b) None (λ o. IfSome o Inside) (λ h. (few, omega arith)) (λ h. tt)
+inside i (Inclusion b d) u l few low = tt
+inside i (Inclusions b d) u l few low = tt
 
-wants_same : (t r b a : ℕ) (u s : Bool) → Wants t u b ≡ Wants r s a → (t ≡ r) × (b ≡ a)
-wants_same t r b a u s e = (cc, cc)
-
-wants_inside : (i : ℕ) (e : Entry) (u : Bool) (r : ℕ) (s : Bool) (a : ℕ) → role_of e < 64 → LowerEntry i e → obligation e u ≡ Wants r s a → Inside i r a
-wants_inside i (Plain Nothing) u r s a few low e = absurd (idle_not r s a e)
-wants_inside i (Plain Everything) u r s a few low e = absurd (idle_not r s a e)
-wants_inside i (Plain (Name n)) u r s a few low e = absurd (idle_not r s a e)
-wants_inside i (Plain (Not b)) u r s a few low e = absurd (idle_not r s a e)
-wants_inside i (Plain (And b d)) u r s a few low e = absurd (idle_not r s a e)
-wants_inside i (Plain (Or b d)) u r s a few low e = absurd (idle_not r s a e)
-wants_inside i (Plain (Restriction q t b)) u r s a few low e = ⊎_elim
-    (λ y. let same = wants_same t r b a (sign_of q u) s (sym (cond-true (obliges q u) (Wants t (sign_of q u) b) Idle y) ∙ e) in (omega (arith, same.0), omega (arith, same.1)))
-    (λ n. absurd (idle_not r s a (sym (cond-false (obliges q u) (Wants t (sign_of q u) b) Idle n) ∙ e)))
-    (cases_Bool (obliges q u))
-wants_inside i (Inclusion b d) u r s a few low e = absurd (idle_not r s a e)
-wants_inside i (Inclusions b d) u r s a few low e = absurd (idle_not r s a e)
-
--- the role and the part of an obligation of a plan's entry are members of words
-pub obligation_inside : (p : Plan) (l : Label) (i r : ℕ) (s : Bool) (a : ℕ) → i < p.width → obliged_at (table_in p) l i ≡ Wants r s a → (r < 64) × (a < 64)
-obligation_inside p l i r s a w e = wider (split (in_label l true i) (in_label l false i) e)
-  where
-    wider : Inside i r a → (r < 64) × (a < 64)
-    wider h = (h.0, omega (arith, h.1, p.few))
-
-    at : (u : Bool) → obligation (listed_entry p.entries i) u ≡ Wants r s a → Inside i r a
-    at u e = wants_inside i (listed_entry p.entries i) u r s a (p.roles_in i) (plan_lower p i) e
-
-    split : (x y : Bool) → cond x (obligation (listed_entry p.entries i) true) (cond y (obligation (listed_entry p.entries i) false) Idle) ≡ Wants r s a → Inside i r a
-    split true y e = at true e
-    split false true e = at false e
-    split false false e = absurd (idle_not r s a e)
+pub obligation_inside : (p : Plan) (i : ℕ) (u : Bool) (o : Option Demand) → i < 64 → o ≡ obligation (listed_entry p.entries i) u → IfSome o Inside
+obligation_inside p i u o l e = rw e (inside i (listed_entry p.entries i) u l (p.roles_in i) (plan_lower p i))
 
 -- a label that does not hold the entry has no obligation by it
-idle_at : (B : Table) (l : Label) (i : ℕ) → has l.plus i ≡ false → has l.minus i ≡ false → obliged_at B l i ≡ Idle
+idle_at : (B : Table) (l : Label) (i : ℕ) → has l.plus i ≡ false → has l.minus i ≡ false → obliged_at B l i ≡ None
 idle_at B l i p m =
-    cond-false (in_label l true i) (obligation (B.entry i) true) (cond (in_label l false i) (obligation (B.entry i) false) Idle) (in_plus l true i refl ∙ p)
-    ∙ cond-false (in_label l false i) (obligation (B.entry i) false) Idle (in_minus l false i refl ∙ m)
+    cond-false (in_label l true i) (obligation (B.entry i) true) (cond (in_label l false i) (obligation (B.entry i) false) None) (in_plus l true i refl ∙ p)
+    ∙ cond-false (in_label l false i) (obligation (B.entry i) false) None (in_minus l false i refl ∙ m)
 
 module _ (H : RoleBox) (B : Table) (l : Label) where
   -- the seeds from an entry on are that of the entry and those from the next on
@@ -85,31 +63,36 @@ module _ (H : RoleBox) (B : Table) (l : Label) where
   up_few zero i = omega arith
   up_few (suc d) i = one (obliged_at B l i) (up_few d (suc i))
     where
-      one : (o : Obligation) → length (seeds_up H B l d (suc i)) ≤ d → length (seed_before H B l o (seeds_up H B l d (suc i))) ≤ suc d
-      one Idle h = omega arith
-      one (Wants r s a) h = omega arith
+      one : (o : Option Demand) → length (seeds_up H B l d (suc i)) ≤ d → length (seed_before H B l o (seeds_up H B l d (suc i))) ≤ suc d
+      one None h = omega arith
+      one (Some d) h = omega arith
 
   -- there are no more of them than entries
   pub seeds_few : (k : ℕ) → length (seeds_from H B l k) ≤ B.width
   unfolding seeds_from
   seeds_few k = omega (arith, up_few (B.width - k) k)
 
-  pub seeds_idle : (i : ℕ) → i < B.width → obliged_at B l i ≡ Idle → seeds_from H B l i ≡ seeds_from H B l (i + 1)
+  pub seeds_idle : (i : ℕ) → i < B.width → obliged_at B l i ≡ None → seeds_from H B l i ≡ seeds_from H B l (i + 1)
   seeds_idle i h e = seeds_at i h ∙ ap (λ o. seed_before H B l o (seeds_from H B l (i + 1))) e
 
-  pub seeds_wants : (i r : ℕ) (s : Bool) (a : ℕ) (seed : Label) → i < B.width → obliged_at B l i ≡ Wants r s a → seed ≡ seed_of H B l r s a
-      → seeds_from H B l i ≡ seed ∷ seeds_from H B l (i + 1)
-  seeds_wants i r s a seed h e f =
-      seeds_at i h ∙ ap (λ o. seed_before H B l o (seeds_from H B l (i + 1))) e ∙ ap (λ m. m ∷ seeds_from H B l (i + 1)) (sym f)
+  -- the seeds from an entry on, by the seed of the entry, if there is one
+  pub seeds_by : (i : ℕ) (r : Option Label) → i < B.width → r ≡ option_map (λ (d : Demand). seed_of H B l d.role d.sign d.part) (obliged_at B l i)
+      → MatchOption r (seeds_from H B l i ≡ seeds_from H B l (i + 1)) (λ m. seeds_from H B l i ≡ m ∷ seeds_from H B l (i + 1))
+  seeds_by i r h e = rw e (go (obliged_at B l i) (seeds_at i h))
+    where
+      go : (o : Option Demand) → seeds_from H B l i ≡ seed_before H B l o (seeds_from H B l (i + 1))
+          → MatchOption (option_map (λ (d : Demand). seed_of H B l d.role d.sign d.part) o) (seeds_from H B l i ≡ seeds_from H B l (i + 1)) (λ m. seeds_from H B l i ≡ m ∷ seeds_from H B l (i + 1))
+      go None f = f
+      go (Some d) f = f
 
-  skip_by : (i d : ℕ) → i + d ≤ B.width → ((j : ℕ) → i ≤ j → j < i + d → obliged_at B l j ≡ Idle) → seeds_from H B l i ≡ seeds_from H B l (i + d)
+  skip_by : (i d : ℕ) → i + d ≤ B.width → ((j : ℕ) → i ≤ j → j < i + d → obliged_at B l j ≡ None) → seeds_from H B l i ≡ seeds_from H B l (i + d)
   skip_by i zero h none = ap (seeds_from H B l) (sym (add-zero i))
   skip_by i (suc d) h none =
       let e : (i + d) + 1 ≡ i + suc d = omega arith in
       skip_by i d (omega arith) (λ j g k. none j g (omega arith)) ∙ seeds_idle (i + d) (omega arith) (none (i + d) (omega arith) (omega arith)) ∙ ap (seeds_from H B l) e
 
   -- entries with no obligation are passed over
-  pub seeds_skip : (i k : ℕ) → i ≤ k → k ≤ B.width → ((j : ℕ) → i ≤ j → j < k → obliged_at B l j ≡ Idle) → seeds_from H B l i ≡ seeds_from H B l k
+  pub seeds_skip : (i k : ℕ) → i ≤ k → k ≤ B.width → ((j : ℕ) → i ≤ j → j < k → obliged_at B l j ≡ None) → seeds_from H B l i ≡ seeds_from H B l k
   seeds_skip i k h w none =
       let e : i + (k - i) ≡ k = omega arith in
       skip_by i (k - i) (omega arith) (λ j g m. none j g (omega arith)) ∙ ap (seeds_from H B l) e
@@ -127,7 +110,7 @@ abbrev pub Passed : RoleBox → Table → Label → ℕ → ℕ → Type 0
 Passed H B l k start = (seeds_from H B l k ≡ seeds_from H B l start) × (k ≤ start) × (start ≤ B.width)
 
 module _ (H : RoleBox) (B : Table) (l : Label) (set : ℕ) (signed : Signed B l set) where
-  unsigned : (j : ℕ) → j < B.width → has set j ≡ false → obliged_at B l j ≡ Idle
+  unsigned : (j : ℕ) → j < B.width → has set j ≡ false → obliged_at B l j ≡ None
   unsigned j h e = ⊎_elim
       (λ none. let n = or_parts (has l.plus j) (has l.minus j) none in idle_at B l j n.0 n.1)
       (λ far. absurd (both_ways (ltb j B.width) far (lt-ltb j B.width h)))

@@ -12,13 +12,12 @@ use Rattle.tableau.specs.declared.Entry.{Entry}
 use Rattle.tableau.specs.declared.Entry.TheVariants.{Plain, Inclusion, Inclusions}
 use Rattle.tableau.specs.Folds.{fold}
 use Rattle.tableau.specs.Entries.{Table, LowerEntry}
-use Rattle.tableau.specs.Labels.{in_label, put}
+use Rattle.tableau.specs.Labels.{in_label, put, put_all}
 use Rattle.tableau.specs.Seeds.{obliges, sign_of, role_of, told_propagated, told_further, told_by_entry, tell}
 use Rattle.plan.specs.declared.Plan.{Plan}
 use Rattle.plan.specs.Meanings.{table_in, box_in}
 use Rattle.plan.specs.Plans.{listed_entry, listed_role}
 use Rattle.plan.proofs.Lowered.{plan_lower}
-use Rattle.successor.specs.Sets.{put_all}
 use Rattle.successor.specs.Obligations.{told_by_signs}
 use Rattle.successor.proofs.Labels.{same_word, fold_puts, in_plus, in_minus}
 

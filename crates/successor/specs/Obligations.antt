@@ -1,18 +1,17 @@
 -- The seeds of a label's obligations, by the rising number of the entry that obliges.
-use Rattle.std.specs.Prelude.{ℕ, zero, suc, ◌-◌, true, false, List, [], ◌∷◌}
+use Rattle.std.specs.Prelude.{ℕ, zero, suc, ◌-◌, true, false, List, [], ◌∷◌, Option, None, Some}
 use Rattle.meaning.specs.Orders.{RoleBox}
 use Rattle.tableau.specs.declared.Label.{Label}
-use Rattle.tableau.specs.declared.Obligation.{Obligation}
-use Rattle.tableau.specs.declared.Obligation.TheVariants.{Idle, Wants}
+use Rattle.tableau.specs.declared.Demand.{Demand}
 use Rattle.tableau.specs.Entries.{Table}
 use Rattle.tableau.specs.Seeds.{obliged_at, tell, seed_of}
 use Rattle.plan.specs.declared.Plan.{Plan}
 use Rattle.plan.specs.Meanings.{table_in, box_in}
 
 -- the seed of the obligation, where there is one, before the others
-abbrev pub seed_before : RoleBox → Table → Label → Obligation → List Label → List Label
-seed_before H B l Idle others = others
-seed_before H B l (Wants r s a) others = seed_of H B l r s a ∷ others
+abbrev pub seed_before : RoleBox → Table → Label → Option Demand → List Label → List Label
+seed_before H B l None others = others
+seed_before H B l (Some d) others = seed_of H B l d.role d.sign d.part ∷ others
 
 -- the seeds of the obligations of the d entries from i on
 unfoldable pub seeds_up : RoleBox → Table → Label → ℕ → ℕ → List Label

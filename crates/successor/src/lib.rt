@@ -1,66 +1,16 @@
 // The obligations of a label, one after another, each with the seed of the successor that it asks for.
 #![tactic(auto)]
 
-ghost use Rattle.std.specs.Prelude.{◌≡◌, ◌+◌, ◌<◌, [], ◌∷◌, MatchOption};
-ghost use Rattle.meaning.specs.declared.Concept.TheVariants.{Restriction};
-ghost use Rattle.tableau.specs.declared.Entry.TheVariants.{Plain};
-ghost use Rattle.tableau.specs.Labels.{in_label, put};
+ghost use Rattle.std.specs.Prelude.{◌≡◌, ◌+◌, ◌<◌, [], ◌∷◌, IfSome, MatchOption, option_map};
 ghost use Rattle.tableau.specs.Seeds.{obliges, sign_of, obligation, obliged_at, told_further, told_by_entry, tell, seed_of};
 ghost use Rattle.plan.specs.Meanings.{table_in, box_in};
 ghost use Rattle.plan.specs.Plans.{listed_entry};
-ghost use Rattle.successor.specs.Sets.{put_all, NoneFrom, NextFrom};
+ghost use Rattle.successor.specs.Sets.{NoneFrom, NextFrom};
 ghost use Rattle.successor.specs.Obligations.{told_by_signs, seeds_in};
 
 use meaning::{Concept, Quantifier};
 use plan::Plan;
-use tableau::{Entry, Label, Obligation};
-
-// Whether the label holds entry i with the sign.
-fn holds(label: Label, sign: bool, i: usize) -> bool
-    requires { i < 64 }
-    ensures { result ≡ in_label label sign i }
-{
-    if sign {
-        words::member(label.plus, i)
-    } else {
-        words::member(label.minus, i)
-    }
-}
-
-// The label with entry i, so signed, in it too.
-pub fn put(label: Label, sign: bool, i: usize) -> Label
-    requires { i < 64 }
-    ensures { result ≡ put sign i label }
-{
-    if sign {
-        Label {
-            plus: words::insert(label.plus, i),
-            minus: label.minus,
-        }
-    } else {
-        Label {
-            plus: label.plus,
-            minus: words::insert(label.minus, i),
-        }
-    }
-}
-
-// The label with every member of the set, so signed, in it too.
-fn put_all(label: Label, sign: bool, set: u64) -> Label
-    ensures { result ≡ put_all sign set label }
-{
-    if sign {
-        Label {
-            plus: label.plus | set,
-            minus: label.minus,
-        }
-    } else {
-        Label {
-            plus: label.plus,
-            minus: label.minus | set,
-        }
-    }
-}
+use tableau::{Demand, Entry, Label};
 
 // Whether a signed restriction obliges to a successor.
 fn obliges(q: Quantifier, sign: bool) -> bool
@@ -68,8 +18,7 @@ fn obliges(q: Quantifier, sign: bool) -> bool
 {
     match q {
         Quantifier::Exists => sign,
-        Quantifier::Forall => !sign,
-        Quantifier::NoneOf => !sign,
+        Quantifier::Forall | Quantifier::NoneOf => !sign,
     }
 }
 
@@ -78,143 +27,98 @@ fn sign_of(q: Quantifier, sign: bool) -> bool
     ensures { result ≡ sign_of q sign }
 {
     match q {
-        Quantifier::Exists => sign,
-        Quantifier::Forall => sign,
+        Quantifier::Exists | Quantifier::Forall => sign,
         Quantifier::NoneOf => !sign,
     }
 }
 
-// What a signed entry obliges to.
-fn obligation(e: Entry, sign: bool) -> Obligation
+// What a signed entry obliges to, if to anything.
+fn obligation(e: Entry, sign: bool) -> Option<Demand>
     ensures { result ≡ obligation e sign }
 {
     match e {
-        Entry::Plain(Concept::Nothing) => Obligation::Idle,
-        Entry::Plain(Concept::Everything) => Obligation::Idle,
-        Entry::Plain(Concept::Name(_)) => Obligation::Idle,
-        Entry::Plain(Concept::Not(_)) => Obligation::Idle,
-        Entry::Plain(Concept::And(_, _)) => Obligation::Idle,
-        Entry::Plain(Concept::Or(_, _)) => Obligation::Idle,
-        Entry::Plain(Concept::Restriction(q, r, a)) => {
-            if obliges(q, sign) {
-                Obligation::Wants(r, sign_of(q, sign), a)
-            } else {
-                Obligation::Idle
-            }
-        }
-        Entry::Inclusion(_, _) => Obligation::Idle,
-        Entry::Inclusions(_, _) => Obligation::Idle,
+        Entry::Plain(Concept::Restriction(q, role, part)) if obliges(q, sign) => Some(Demand {
+            role,
+            sign: sign_of(q, sign),
+            part,
+        }),
+        _ => None,
     }
 }
 
-// What entry i obliges a node with the label to.
-pub fn obligation_at(plan: &Plan, label: Label, i: usize) -> Obligation
+// What entry i obliges a node with the label to, if to anything.
+pub fn obligation_at(plan: &Plan, label: Label, i: usize) -> Option<Demand>
     requires { i < 64 }
-    ensures { result ≡ obliged_at (table_in plan.now) label i }
+    ensures value { result ≡ obliged_at (table_in plan.now) label i }
+    ensures inside { IfSome result (λ d. (d.role < 64) × (d.part < 64)) }
 {
-    if holds(label, true, i) {
+    if label.holds(true, i) {
         return obligation(plan.entry(i), true);
     }
-    if holds(label, false, i) {
+    if label.holds(false, i) {
         return obligation(plan.entry(i), false);
     }
-    Obligation::Idle
+    None
 }
 
-// A value restriction by t is told on to a successor by r: itself where t is transitive, else those of the restrictions
-// propagated by it whose role is above r.
-fn tell_on(plan: &Plan, r: usize, sign: bool, i: usize, t: usize, acc: Label) -> Label
-    requires successor { r < 64 }
-    requires place { i < 64 }
-    requires role { t < 64 }
-    ensures { result ≡ told_further (box_in plan.now) (table_in plan.now) r sign i t acc }
-{
-    if words::member(plan.marks, t) {
-        return put(acc, sign, i);
-    }
-    put_all(
-        acc,
-        sign,
-        words::intersection(plan.propagated[i], plan.above[r]),
-    )
+// A node with the label, which tells a successor by the role what its restrictions say.
+#[derive(Clone, Copy)]
+struct Telling<'p> {
+    plan: &'p Plan,
+    label: Label,
+    role: usize,
+    ghost few: { role < 64 },
 }
 
-// What the restriction of part a by t, which stands signed as entry i, tells a successor by r.
-fn tell_restriction(
-    plan: &Plan,
-    r: usize,
-    sign: bool,
-    i: usize,
-    q: Quantifier,
-    t: u8,
-    a: u8,
-    acc: Label,
-) -> Label
-    requires successor { r < 64 }
-    requires place { i < plan.now.width }
-    requires stands { listed_entry plan.now.entries i ≡ Plain (Restriction q t a) }
-    ensures { result ≡ told_by_entry (box_in plan.now) (table_in plan.now) r sign i (Plain (Restriction q t a)) acc }
-{
-    if !obliges(q, sign) && words::member(plan.above[r], i) {
-        return tell_on(
-            plan,
-            r,
+impl<'p> Telling<'p> {
+    // The restriction by t, which stands signed as entry i, is told on: itself where t is transitive, else those of the
+    // restrictions propagated by it whose role is above the successor's.
+    fn further(&self, sign: bool, i: usize, t: usize, acc: Label) -> Label
+        requires place { i < 64 }
+        requires role { t < 64 }
+        ensures { result ≡ told_further (box_in self.now.plan.now) (table_in self.now.plan.now) self.now.role sign i t acc }
+    {
+        if words::member(self.plan.marks, t) {
+            return acc.with(sign, i);
+        }
+        acc.with_all(
             sign,
-            i,
-            t as usize,
-            put(acc, sign_of(q, sign), a as usize),
-        );
+            words::intersection(self.plan.propagated[i], self.plan.above[self.role]),
+        )
     }
-    acc
-}
 
-// What the signed entry i tells a successor by r.
-fn tell_entry(plan: &Plan, r: usize, sign: bool, i: usize, acc: Label) -> Label
-    requires successor { r < 64 }
-    requires place { i < plan.now.width }
-    ensures { result ≡ told_by_entry (box_in plan.now) (table_in plan.now) r sign i (listed_entry plan.now.entries i) acc }
-{
-    match plan.entry(i) {
-        Entry::Plain(Concept::Nothing) => acc,
-        Entry::Plain(Concept::Everything) => acc,
-        Entry::Plain(Concept::Name(_)) => acc,
-        Entry::Plain(Concept::Not(_)) => acc,
-        Entry::Plain(Concept::And(_, _)) => acc,
-        Entry::Plain(Concept::Or(_, _)) => acc,
-        Entry::Plain(Concept::Restriction(q, t, a)) => tell_restriction(
-            plan, r, sign, i, q, t, a, acc,
-        ),
-        Entry::Inclusion(_, _) => acc,
-        Entry::Inclusions(_, _) => acc,
+    // What the signed entry i tells the successor.
+    fn entry(&self, sign: bool, i: usize, acc: Label) -> Label
+        requires { i < self.now.plan.now.width }
+        ensures { result ≡ told_by_entry (box_in self.now.plan.now) (table_in self.now.plan.now) self.now.role sign i (listed_entry self.now.plan.now.entries i) acc }
+    {
+        match self.plan.entry(i) {
+            Entry::Plain(Concept::Restriction(q, t, a))
+                if !obliges(q, sign) && words::member(self.plan.above[self.role], i) =>
+                self.further(sign, i, t as usize, acc.with(sign_of(q, sign), a as usize)),
+            _ => acc,
+        }
     }
-}
 
-// What the label tells a successor by r of entry i with the sign, if it holds it so.
-fn tell_sign(plan: &Plan, label: Label, r: usize, sign: bool, i: usize, acc: Label) -> Label
-    requires successor { r < 64 }
-    requires place { i < plan.now.width }
-    ensures { result ≡ tell (box_in plan.now) (table_in plan.now) label r sign i acc }
-{
-    if holds(label, sign, i) {
-        return tell_entry(plan, r, sign, i, acc);
+    // The same, if the label holds the entry with the sign.
+    fn signed(&self, sign: bool, i: usize, acc: Label) -> Label
+        requires { i < self.now.plan.now.width }
+        ensures { result ≡ tell (box_in self.now.plan.now) (table_in self.now.plan.now) self.now.label self.now.role sign i acc }
+    {
+        if self.label.holds(sign, i) {
+            self.entry(sign, i, acc)
+        } else {
+            acc
+        }
     }
-    acc
-}
 
-// What the label tells a successor by r of entry i.
-fn tell_signs(plan: &Plan, label: Label, r: usize, i: usize, acc: Label) -> Label
-    requires successor { r < 64 }
-    requires place { i < plan.now.width }
-    ensures { result ≡ told_by_signs (box_in plan.now) (table_in plan.now) label r i acc }
-{
-    tell_sign(
-        plan,
-        label,
-        r,
-        true,
-        i,
-        tell_sign(plan, label, r, false, i, acc),
-    )
+    // What the label tells the successor of entry i.
+    fn tell(&self, i: usize, acc: Label) -> Label
+        requires { i < self.now.plan.now.width }
+        ensures { result ≡ told_by_signs (box_in self.now.plan.now) (table_in self.now.plan.now) self.now.label self.now.role i acc }
+    {
+        self.signed(true, i, self.signed(false, i, acc))
+    }
 }
 
 // The lowest member of the set from `start` on.
@@ -236,11 +140,16 @@ pub fn seed(plan: &Plan, label: Label, r: usize, sign: bool, a: usize) -> Label
     requires part { a < 64 }
     ensures { result ≡ seed_of (box_in plan.now) (table_in plan.now) label r sign a }
 {
-    let telling = words::intersection(words::union(label.plus, label.minus), plan.above[r]);
-    let mut acc = put(Label { plus: 0, minus: 0 }, sign, a);
+    let telling = Telling {
+        plan,
+        label,
+        role: r,
+    };
+    let asked = words::intersection(label.entries(), plan.above[r]);
+    let mut acc = Label::EMPTY.with(sign, a);
     let mut start = 0;
-    while let Some(i) = next_member(telling, start) {
-        acc = tell_signs(plan, label, r, i, acc);
+    while let Some(i) = next_member(asked, start) {
+        acc = telling.tell(i, acc);
         start = i + 1;
     }
     acc
@@ -248,13 +157,16 @@ pub fn seed(plan: &Plan, label: Label, r: usize, sign: bool, a: usize) -> Label
 
 // The seed that entry i obliges a node with the label to, if it does.
 fn seed_at(plan: &Plan, label: Label, i: usize) -> Option<Label>
-    requires { i < plan.now.width }
-    ensures { MatchOption result (seeds_in plan.now label i ≡ seeds_in plan.now label (i + 1)) (λ l. seeds_in plan.now label i ≡ l ∷ seeds_in plan.now label (i + 1)) }
+    requires { i < 64 }
+    ensures { result ≡ option_map (λ d. seed_of (box_in plan.now) (table_in plan.now) label d.role d.sign d.part) (obliged_at (table_in plan.now) label i) }
 {
-    match obligation_at(plan, label, i) {
-        Obligation::Idle => None,
-        Obligation::Wants(r, sign, a) => Some(seed(plan, label, r as usize, sign, a as usize)),
-    }
+    obligation_at(plan, label, i).map(|d| seed(
+        plan,
+        label,
+        d.role as usize,
+        d.sign,
+        d.part as usize,
+    ))
 }
 
 // The seed of the first obligation of the label at entry k or after it, with the entry to go on from.
@@ -264,10 +176,7 @@ pub fn next_seed(plan: &Plan, label: Label, k: usize) -> Option<(Label, usize)>
     if k >= plan.width {
         return None;
     }
-    let signed = words::intersection(
-        words::union(label.plus, label.minus),
-        words::below(plan.width),
-    );
+    let signed = words::intersection(label.entries(), words::below(plan.width));
     let mut start = k;
     while let Some(i) = next_member(signed, start) {
         start = i + 1;

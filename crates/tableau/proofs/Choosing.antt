@@ -1,16 +1,15 @@
 -- A search only adds to what stands. So an edge stays as it was chosen, and each obligation of a node that stands in the
 -- end was met at some moment, with all that stood then standing still.
-use Rattle.std.proofs.Common.{◌≡◌, ℕ, zero, suc, ◌+◌, ◌<◌, ◌≤◌, Bool, true, false, leb, List, [], ◌∷◌, ◌++◌, length, get_or, sym, refl, ap, ◌∙◌, subst, ⊎_elim, arith}
+use Rattle.std.proofs.Common.{◌≡◌, ℕ, zero, suc, ◌+◌, ◌<◌, ◌≤◌, Bool, true, false, leb, List, [], ◌∷◌, ◌++◌, length, get_or, sym, refl, ap, ◌∙◌, subst, ⊎_elim, arith, Option, None, Some}
 use Rattle.std.proofs.lemmas.List.{append-nil, append_assoc, length-append, length_push, get_or_append_left, get_or_push}
 use Rattle.std.proofs.lemmas.Bool.{cases_eq, cases_lt, cond-true, cond-false, leb-false}
 use Rattle.meaning.specs.Orders.{RoleBox}
 use Rattle.tableau.specs.declared.Label.{Label}
-use Rattle.tableau.specs.declared.Obligation.{Obligation}
-use Rattle.tableau.specs.declared.Obligation.TheVariants.{Idle, Wants}
+use Rattle.tableau.specs.declared.Demand.{Demand}
 use Rattle.tableau.specs.Labels.{empty, any_contains, lowest}
 use Rattle.tableau.specs.Entries.{Table, LowerEntry}
 use Rattle.tableau.specs.Expansions.{expansions}
-use Rattle.tableau.specs.Seeds.{obliged_at, seed_of}
+use Rattle.tableau.specs.Seeds.{obliged_at, seed_of, wants}
 use Rattle.tableau.specs.Search.{Outcome, failed, full, stands, Searcher, or_else, reuse, pursue, meet_from, try_each, enter, explore}
 use Rattle.tableau.specs.Moments.{Tried, Moment, first, next, deeper, chosen, EdgeChosen}
 use Rattle.tableau.proofs.Tests.{never}
@@ -43,7 +42,7 @@ module _ (H : RoleBox) (B : Table) (lower : (i : ℕ) → LowerEntry i (B.entry 
 
   -- an edge to an old label stays since the labels up to it do; one to a new label, since none before it contains the seed
   pub edge_stays : (k : ℕ) (l : Label) (r : ℕ) (s : Bool) (a : ℕ) (st ms more : List Label)
-      → pursue H B (explore H B n k) l (Wants r s a) st ≡ stands ms → lowest (ms ++ more) (seed_of H B l r s a) ≡ chosen st (seed_of H B l r s a)
+      → pursue H B (explore H B n k) l (wants r s a) st ≡ stands ms → lowest (ms ++ more) (seed_of H B l r s a) ≡ chosen st (seed_of H B l r s a)
   unfolding pursue reuse
   edge_stays k l r s a st ms more e = go (seed_of H B l r s a) (any_contains st (seed_of H B l r s a)) refl e
     where
@@ -57,10 +56,10 @@ module _ (H : RoleBox) (B : Table) (lower : (i : ℕ) → LowerEntry i (B.entry 
           ∙ sym (cond-false (any_contains st seed) (lowest st seed) (length st) h)
 
   -- what stands once an obligation is met extends what stood
-  pub pursue_extends : (k : ℕ) (l : Label) (o : Obligation) (st ms : List Label) → pursue H B (explore H B n k) l o st ≡ stands ms → Extends st ms
+  pub pursue_extends : (k : ℕ) (l : Label) (o : Option Demand) (st ms : List Label) → pursue H B (explore H B n k) l o st ≡ stands ms → Extends st ms
   unfolding pursue reuse
-  pursue_extends k l Idle st ms e = extends_same st ms (same_labels st ms e)
-  pursue_extends k l (Wants r s a) st ms e = go (seed_of H B l r s a) (any_contains st (seed_of H B l r s a)) e
+  pursue_extends k l None st ms e = extends_same st ms (same_labels st ms e)
+  pursue_extends k l (Some d) st ms e = go (seed_of H B l d.role d.sign d.part) (any_contains st (seed_of H B l d.role d.sign d.part)) e
     where
       go : (seed : Label) (b : Bool) → reuse b (explore H B n k) st seed ≡ stands ms → Extends st ms
       go seed true e = extends_same st ms (same_labels st ms e)
@@ -125,21 +124,24 @@ module _ (H : RoleBox) (B : Table) (lower : (i : ℕ) → LowerEntry i (B.entry 
         subst (λ c. pursue H B (explore H B n k) c (obliged_at B c i) st ≡ stands ms → Moment H B n root k x (suc i) ms) is (λ e. next k x i st ms m low e)
 
     step_deeper : (k x i : ℕ) (st : List Label) → Moment H B n root k x i st → (l : Label) → get_or st x empty ≡ l → i < B.width
-        → (r : ℕ) (s : Bool) (a : ℕ) → obliged_at B l i ≡ Wants r s a → any_contains st (seed_of H B l r s a) ≡ false → Starts k st (seed_of H B l r s a)
+        → (r : ℕ) (s : Bool) (a : ℕ) → obliged_at B l i ≡ wants r s a → any_contains st (seed_of H B l r s a) ≡ false → Starts k st (seed_of H B l r s a)
     step_deeper k x i st m l is low r s a w h j f up = subst
-        (λ c. obliged_at B c i ≡ Wants r s a → any_contains st (seed_of H B c r s a) ≡ false → Tried H B n j st (seed_of H B c r s a) f → Moment H B n root j (length st) 0 (st ++ f ∷ []))
+        (λ c. obliged_at B c i ≡ wants r s a → any_contains st (seed_of H B c r s a) ≡ false → Tried H B n j st (seed_of H B c r s a) f → Moment H B n root j (length st) 0 (st ++ f ∷ []))
         is (λ o none tried. deeper j x i r a s st f (subst (λ d. Moment H B n root d x i st) up m) low o none tried) w h
 
     -- an obligation has met those of the nodes made for it
     pursue_meets : (k : ℕ) → MeetsAll k → (l : Label) (x i : ℕ) (st : List Label) → Moment H B n root k x i st → get_or st x empty ≡ l → i < B.width
-        → (o : Obligation) → obliged_at B l i ≡ o → (ms : List Label) → pursue H B (explore H B n k) l o st ≡ stands ms → MetFrom (length st) ms
+        → (o : Option Demand) → obliged_at B l i ≡ o → (ms : List Label) → pursue H B (explore H B n k) l o st ≡ stands ms → MetFrom (length st) ms
     unfolding pursue reuse
-    pursue_meets k good l x i st m is low Idle w ms e = λ y j h p. absurd (omega (arith, ap length (same_labels st ms e)))
-    pursue_meets k good l x i st m is low (Wants r s a) w ms e = go (any_contains st (seed_of H B l r s a)) refl e
+    pursue_meets k good l x i st m is low None w ms e = λ y j h p. absurd (omega (arith, ap length (same_labels st ms e)))
+    pursue_meets k good l x i st m is low (Some d) w ms e = go (any_contains st seed) refl e
       where
-        go : (b : Bool) → any_contains st (seed_of H B l r s a) ≡ b → reuse b (explore H B n k) st (seed_of H B l r s a) ≡ stands ms → MetFrom (length st) ms
+        seed : Label
+        seed = seed_of H B l d.role d.sign d.part
+
+        go : (b : Bool) → any_contains st seed ≡ b → reuse b (explore H B n k) st seed ≡ stands ms → MetFrom (length st) ms
         go true h e = λ y j q p. absurd (omega (arith, ap length (same_labels st ms e)))
-        go false h e = (good st (seed_of H B l r s a) ms (step_deeper k x i st m l is low r s a w h) e).all
+        go false h e = (good st seed ms (step_deeper k x i st m l is low d.role d.sign d.part w h) e).all
 
     -- the obligation at hand was met, and the rest is done
     done_step : (k : ℕ) (l : Label) (x i : ℕ) (st ms ls : List Label) → Moment H B n root k x i st → get_or st x empty ≡ l → x < length st
@@ -241,10 +243,10 @@ module _ (H : RoleBox) (B : Table) (lower : (i : ℕ) → LowerEntry i (B.entry 
 
     -- so in the end every obligation of every node was met, and its edge is the one chosen then
     pub edges_met : (ls : List Label) → explore H B n n [] root ≡ stands ls → (x i r a : ℕ) (s : Bool) → x < length ls → i < B.width
-        → obliged_at B (get_or ls x empty) i ≡ Wants r s a → EdgeChosen H B n root ls x i r s a
+        → obliged_at B (get_or ls x empty) i ≡ wants r s a → EdgeChosen H B n root ls x i r s a
     edges_met ls e x i r a s l low w =
         let m = (root_meets ls e).all x i (omega arith) l low in
-        let p : pursue H B (explore H B n m.depth) (get_or ls x empty) (Wants r s a) m.before ≡ stands m.after =
+        let p : pursue H B (explore H B n m.depth) (get_or ls x empty) (wants r s a) m.before ≡ stands m.after =
         subst (λ o. pursue H B (explore H B n m.depth) (get_or ls x empty) o m.before ≡ stands m.after) w m.met in
         record {
           depth = m.depth;

@@ -1,5 +1,5 @@
 -- Failure is right: where the search fails, no individual of any world that follows the hierarchy satisfies the seed.
-use Rattle.std.proofs.Common.{◌≡◌, ℕ, zero, suc, ◌+◌, ◌<◌, Bool, true, false, cond, not, ◌&&◌, ◌||◌, ◌⊎◌, List, [], ◌∷◌, ◌++◌, sym, refl, ap, ◌∙◌, inl, inr, ⊎_elim}
+use Rattle.std.proofs.Common.{◌≡◌, ℕ, zero, suc, ◌+◌, ◌<◌, Bool, true, false, cond, not, ◌&&◌, ◌||◌, ◌⊎◌, List, [], ◌∷◌, ◌++◌, sym, refl, ap, ◌∙◌, inl, inr, ⊎_elim, Option, None, Some}
 use Rattle.std.proofs.lemmas.Bool.{cases_Bool, and_parts, and_cases, or_cases, or_parts, both_ways, not-true, cond_both}
 use Rattle.meaning.specs.Worlds.{Interpretation, denotes}
 use Rattle.meaning.specs.Orders.{RoleBox}
@@ -11,12 +11,11 @@ use Rattle.tableau.specs.declared.Entry.{Entry}
 use Rattle.tableau.specs.declared.Entry.TheVariants.{Plain, Inclusion, Inclusions}
 use Rattle.tableau.specs.declared.Ways.{Ways}
 use Rattle.tableau.specs.declared.Ways.TheVariants.{One, Two}
-use Rattle.tableau.specs.declared.Obligation.{Obligation}
-use Rattle.tableau.specs.declared.Obligation.TheVariants.{Idle, Wants}
+use Rattle.tableau.specs.declared.Demand.{Demand}
 use Rattle.tableau.specs.Labels.{empty, in_label, put, any_contains}
 use Rattle.tableau.specs.Entries.{Table, means, Meaning, Follows, Tabled}
 use Rattle.tableau.specs.Expansions.{absurd_entry, clash_at, clash, one_of, grown, taken, branch, expand, expansions}
-use Rattle.tableau.specs.Seeds.{obliges, sign_of, obliged_at, role_of, seed_of}
+use Rattle.tableau.specs.Seeds.{obliges, sign_of, obliged_at, role_of, seed_of, wants}
 use Rattle.tableau.specs.Search.{failed, Searcher, reuse, pursue, meet_from, try_each, enter, explore}
 use Rattle.tableau.proofs.Tests.{never, not_sign}
 use Rattle.tableau.proofs.Folding.{fold_keeps}
@@ -186,7 +185,7 @@ module _ (H : RoleBox) (B : Table) (T : Tabled H B) (W : Interpretation) (F : Fo
             (λ z bz. F.wider P.0 t x z P.3 bx bz)))
 
   -- an obligation of x is met in the world, by an individual that satisfies its seed
-  pub some_successor : (x : ℕ) → x < W.size → (l : Label) → Sat h x l → (i r a : ℕ) (s : Bool) → obliged_at B l i ≡ Wants r s a
+  pub some_successor : (x : ℕ) → x < W.size → (l : Label) → Sat h x l → (i r a : ℕ) (s : Bool) → obliged_at B l i ≡ wants r s a
       → (y : ℕ) × (y < W.size) × (W.joins r x y ≡ true) × Sat h y (seed_of H B l r s a)
   some_successor x bx l L i r a s e =
       let c = obliging_at B l i r s a e in
@@ -194,7 +193,7 @@ module _ (H : RoleBox) (B : Table) (T : Tabled H B) (W : Interpretation) (F : Fo
       (k.0, k.1, k.2, seed_sat r x k.0 bx k.1 k.2 l L s a (k.3 ∙ c.part_sign))
 
   -- a label with an obligation whose seed none satisfies, none satisfies
-  pub obligation_absent : (l : Label) (i r a : ℕ) (s : Bool) → obliged_at B l i ≡ Wants r s a → Absent W h (seed_of H B l r s a) → Absent W h l
+  pub obligation_absent : (l : Label) (i r a : ℕ) (s : Bool) → obliged_at B l i ≡ wants r s a → Absent W h (seed_of H B l r s a) → Absent W h l
   obligation_absent l i r a s e none x bx L =
       let k = some_successor x bx l L i r a s e in
       none k.0 k.1 k.3
@@ -217,11 +216,12 @@ module _ (H : RoleBox) (B : Table) (T : Tabled H B) (W : Interpretation) (F : Fo
     reuse_fails false st seed e = R st seed e
 
     -- an obligation that fails is of a label that none satisfies
-    pursue_fails : (l : Label) (i : ℕ) (o : Obligation) → obliged_at B l i ≡ o → (st : List Label) → pursue H B sub l o st ≡ failed → Absent W h l
+    pursue_fails : (l : Label) (i : ℕ) (o : Option Demand) → obliged_at B l i ≡ o → (st : List Label) → pursue H B sub l o st ≡ failed → Absent W h l
     unfolding pursue
-    pursue_fails l i Idle is st e = never cc
-    pursue_fails l i (Wants r s a) is st e =
-        obligation_absent l i r a s is (reuse_fails (any_contains st (seed_of H B l r s a)) st (seed_of H B l r s a) e)
+    pursue_fails l i None is st e = never cc
+    pursue_fails l i (Some d) is st e =
+        let seed = seed_of H B l d.role d.sign d.part in
+        obligation_absent l i d.role d.part d.sign is (reuse_fails (any_contains st seed) st seed e)
 
     -- and so is one of several
     meet_fails : (l : Label) (d i : ℕ) (st : List Label) → meet_from H B sub l d i st ≡ failed → Absent W h l

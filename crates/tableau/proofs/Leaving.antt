@@ -1,17 +1,16 @@
 -- What the search leaves standing: each level adds labels to those that stood, all saturated, with every obligation met.
-use Rattle.std.proofs.Common.{◌≡◌, ℕ, zero, suc, ◌+◌, ◌<◌, ◌≤◌, Bool, true, false, List, [], ◌∷◌, ◌++◌, length, get_or, sym, refl, ap, ◌∙◌, subst, inl, inr, ⊎_elim, arith}
+use Rattle.std.proofs.Common.{◌≡◌, ℕ, zero, suc, ◌+◌, ◌<◌, ◌≤◌, Bool, true, false, List, [], ◌∷◌, ◌++◌, length, get_or, sym, refl, ap, ◌∙◌, subst, inl, inr, ⊎_elim, arith, Option, None, Some}
 use Rattle.std.specs.List.{AllByRecursion as All}
 use Rattle.std.proofs.ByRecursion.{All-append, All-weaker, All-get_or}
 use Rattle.std.proofs.lemmas.List.{append-nil, append_assoc, length-append, get_or_at}
 use Rattle.std.proofs.lemmas.Bool.{cases_eq}
 use Rattle.meaning.specs.Orders.{RoleBox}
 use Rattle.tableau.specs.declared.Label.{Label}
-use Rattle.tableau.specs.declared.Obligation.{Obligation}
-use Rattle.tableau.specs.declared.Obligation.TheVariants.{Idle, Wants}
+use Rattle.tableau.specs.declared.Demand.{Demand}
 use Rattle.tableau.specs.Labels.{empty, contains, any_contains}
 use Rattle.tableau.specs.Entries.{Table, LowerEntry}
 use Rattle.tableau.specs.Expansions.{expansions}
-use Rattle.tableau.specs.Seeds.{obliged_at, seed_of}
+use Rattle.tableau.specs.Seeds.{obliged_at, seed_of, wants}
 use Rattle.tableau.specs.Search.{stands, Searcher, reuse, pursue, meet_from, try_each, enter, explore}
 use Rattle.tableau.proofs.Tests.{never}
 use Rattle.tableau.proofs.Labelling.{Holds, contains_from, any_grows, any_at}
@@ -23,12 +22,12 @@ use Rattle.tableau.proofs.Growing.{Expansion, expansions_right}
 pub record Fine (H : RoleBox) (B : Table) (P : Label → Type 0) (ls : List Label) (l : Label) : Type 0 where
   pub filled : Saturated B l
   pub own : P l
-  pub met : (i r a : ℕ) (s : Bool) → i < B.width → obliged_at B l i ≡ Wants r s a → any_contains ls (seed_of H B l r s a) ≡ true
+  pub met : (i r a : ℕ) (s : Bool) → i < B.width → obliged_at B l i ≡ wants r s a → any_contains ls (seed_of H B l r s a) ≡ true
 
 -- the seed of the label's obligation, if it is one, is contained in a label of the list
-abbrev Meets : RoleBox → Table → Label → List Label → Obligation → Type 0
-Meets H B l ls Idle = Unit {0}
-Meets H B l ls (Wants r s a) = any_contains ls (seed_of H B l r s a) ≡ true
+abbrev Meets : RoleBox → Table → Label → List Label → Option Demand → Type 0
+Meets H B l ls None = Unit {0}
+Meets H B l ls (Some d) = any_contains ls (seed_of H B l d.role d.sign d.part) ≡ true
 
 -- the labels ls are st and more, and the further ones are fine
 record Added (H : RoleBox) (B : Table) (P : Label → Type 0) (st ls : List Label) : Type 0 where
@@ -100,7 +99,7 @@ module _ (H : RoleBox) (B : Table) (P : Label → Type 0) where
   Leaves sub = (st : List Label) (seed : Label) (ls : List Label) → P seed → sub st seed ≡ stands ls → Rooted H B P st seed ls
 
   module _ (low : (i : ℕ) → LowerEntry i (B.entry i)) (kept : (l m : Label) → Holds m l → P l → P m)
-      (passed : (l : Label) (i r a : ℕ) (s : Bool) → i < B.width → obliged_at B l i ≡ Wants r s a → P l → P (seed_of H B l r s a)) (sub : Searcher) (good : Leaves sub) where
+      (passed : (l : Label) (i r a : ℕ) (s : Bool) → i < B.width → obliged_at B l i ≡ wants r s a → P l → P (seed_of H B l r s a)) (sub : Searcher) (good : Leaves sub) where
     -- a reused label contains the seed, and so does a new one
     reuse_leaves : (b : Bool) (st : List Label) (seed : Label) → any_contains st seed ≡ b → P seed → (ls : List Label) → reuse b sub st seed ≡ stands ls
         → Added H B P st ls × (any_contains ls seed ≡ true)
@@ -109,15 +108,17 @@ module _ (H : RoleBox) (B : Table) (P : Label → Type 0) where
     reuse_leaves false st seed h p ls e = let r = good st seed ls p e in (rooted_added st seed ls r, any_rooted st seed ls r)
 
     -- an obligation leaves its seed contained
-    pursue_leaves : (l : Label) → P l → (i : ℕ) → i < B.width → (o : Obligation) → obliged_at B l i ≡ o → (st ls : List Label) → pursue H B sub l o st ≡ stands ls → Added H B P st ls × Meets H B l ls o
+    pursue_leaves : (l : Label) → P l → (i : ℕ) → i < B.width → (o : Option Demand) → obliged_at B l i ≡ o → (st ls : List Label) → pursue H B sub l o st ≡ stands ls → Added H B P st ls × Meets H B l ls o
     unfolding pursue
-    pursue_leaves l p i m Idle w st ls e = (added_same st ls (same_labels st ls e), tt)
-    pursue_leaves l p i m (Wants r s a) w st ls e = reuse_leaves (any_contains st (seed_of H B l r s a)) st (seed_of H B l r s a) refl (passed l i r a s m w p) ls e
+    pursue_leaves l p i m None w st ls e = (added_same st ls (same_labels st ls e), tt)
+    pursue_leaves l p i m (Some d) w st ls e =
+        let seed = seed_of H B l d.role d.sign d.part in
+        reuse_leaves (any_contains st seed) st seed refl (passed l i d.role d.part d.sign m w p) ls e
 
     -- what was met stays met
-    meets_added : (st ls : List Label) → Added H B P st ls → (l : Label) (o : Obligation) → Meets H B l st o → Meets H B l ls o
-    meets_added st ls a l Idle m = tt
-    meets_added st ls a l (Wants r s b) m = any_added st ls a (seed_of H B l r s b) m
+    meets_added : (st ls : List Label) → Added H B P st ls → (l : Label) (o : Option Demand) → Meets H B l st o → Meets H B l ls o
+    meets_added st ls a l None m = tt
+    meets_added st ls a l (Some d) m = any_added st ls a (seed_of H B l d.role d.sign d.part) m
 
     -- and so do several, one after another
     meet_leaves : (l : Label) → P l → (d i : ℕ) → i + d ≤ B.width → (st ls : List Label) → meet_from H B sub l d i st ≡ stands ls
@@ -178,7 +179,7 @@ left H B P seed ls r = record {
 -- at every depth
 pub explore_leaves : (H : RoleBox) (B : Table) → ((i : ℕ) → LowerEntry i (B.entry i)) → (P : Label → Type 0)
     → ((l m : Label) → Holds m l → P l → P m)
-    → ((l : Label) (i r a : ℕ) (s : Bool) → i < B.width → obliged_at B l i ≡ Wants r s a → P l → P (seed_of H B l r s a))
+    → ((l : Label) (i r a : ℕ) (s : Bool) → i < B.width → obliged_at B l i ≡ wants r s a → P l → P (seed_of H B l r s a))
     → (n k : ℕ) → Leaves H B P (explore H B n k)
 unfolding explore
 explore_leaves H B low P kept passed n zero st seed ls p e = never cc
@@ -188,7 +189,7 @@ explore_leaves H B low P kept passed n (suc k) st seed ls p e =
 -- P is a property that stays as labels grow and that passes to the seeds of successors
 pub leaves : (H : RoleBox) (B : Table) → ((i : ℕ) → LowerEntry i (B.entry i)) → (P : Label → Type 0)
     → ((l m : Label) → Holds m l → P l → P m)
-    → ((l : Label) (i r a : ℕ) (s : Bool) → i < B.width → obliged_at B l i ≡ Wants r s a → P l → P (seed_of H B l r s a))
+    → ((l : Label) (i r a : ℕ) (s : Bool) → i < B.width → obliged_at B l i ≡ wants r s a → P l → P (seed_of H B l r s a))
     → (n : ℕ) (seed : Label) (ls : List Label) → P seed → explore H B n n [] seed ≡ stands ls → Left H B P seed ls
 leaves H B low P kept passed n seed ls p e =
     left H B P seed ls (explore_leaves H B low P kept passed n n [] seed ls p e)

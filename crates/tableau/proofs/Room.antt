@@ -1,5 +1,5 @@
 -- Room: the labels that stand are different sets of signed entries, and 3 ^ width nodes are enough for them.
-use Rattle.std.proofs.Common.{◌≡◌, ℕ, zero, suc, ◌+◌, ◌-◌, ◌*◌, ◌^◌, ◌<◌, ◌≤◌, Bool, true, false, cond, leb, List, [], ◌∷◌, ◌++◌, length, get_or, sym, refl, ap, ◌∙◌, subst, inl, inr, ⊎_elim, pow-suc, arith}
+use Rattle.std.proofs.Common.{◌≡◌, ℕ, zero, suc, ◌+◌, ◌-◌, ◌*◌, ◌^◌, ◌<◌, ◌≤◌, Bool, true, false, cond, leb, List, [], ◌∷◌, ◌++◌, length, get_or, sym, refl, ap, ◌∙◌, subst, inl, inr, ⊎_elim, pow-suc, arith, Option, None, Some}
 use Rattle.std.specs.List.{AllByRecursion as All}
 use Rattle.std.proofs.ByRecursion.{All-get_or, All-push}
 use Rattle.std.proofs.lemmas.List.{get_or_append_left, get_or_push, length_push}
@@ -9,12 +9,11 @@ use Rattle.meaning.specs.declared.Concept.TheVariants.{Restriction}
 use Rattle.meaning.specs.declared.Quantifier.{Quantifier}
 use Rattle.tableau.specs.declared.Label.{Label}
 use Rattle.tableau.specs.declared.Entry.TheVariants.{Plain}
-use Rattle.tableau.specs.declared.Obligation.{Obligation}
-use Rattle.tableau.specs.declared.Obligation.TheVariants.{Idle, Wants}
+use Rattle.tableau.specs.declared.Demand.{Demand}
 use Rattle.tableau.specs.Labels.{empty, in_label, put, any_contains}
 use Rattle.tableau.specs.Entries.{Table, LowerEntry}
 use Rattle.tableau.specs.Expansions.{clash, expansions}
-use Rattle.tableau.specs.Seeds.{sign_of, obliged_at, seed_of}
+use Rattle.tableau.specs.Seeds.{sign_of, obliged_at, seed_of, wants}
 use Rattle.tableau.specs.Search.{Outcome, failed, full, stands, Searcher, reuse, pursue, meet_from, try_each, enter, explore}
 use Rattle.tableau.specs.Moments.{Different, Tried, Moment, first, next, deeper}
 use Rattle.tableau.proofs.Labelling.{in_empty, put_cases, Holds, contains_from, any_at}
@@ -193,7 +192,7 @@ module _ (H : RoleBox) (B : Table) (lower : (i : ℕ) → LowerEntry i (B.entry 
   Roomy k sub = (st : List Label) (seed : Label) → Apart B st → n ≤ length st + k → Fresh B st seed → Fits B n k (sub st seed)
 
   -- the seed of an obligation that no standing label contains is one for a new node
-  obligation_fresh : (l : Label) → Narrow B.width l → (i r : ℕ) (s : Bool) (a : ℕ) → obliged_at B l i ≡ Wants r s a
+  obligation_fresh : (l : Label) → Narrow B.width l → (i r : ℕ) (s : Bool) (a : ℕ) → obliged_at B l i ≡ wants r s a
       → (st : List Label) → any_contains st (seed_of H B l r s a) ≡ false → Fresh B st (seed_of H B l r s a)
   obligation_fresh l p i r s a e st new =
       let k = obliging_at B l i r s a e in
@@ -201,15 +200,18 @@ module _ (H : RoleBox) (B : Table) (lower : (i : ℕ) → LowerEntry i (B.entry 
       record { narrow = seed_narrow B lower H l r s a (omega (arith, p k.sign i k.held)); holding = (s, a, seed_part H B l r s a); new = new }
 
   -- an obligation, several, the expansions, and the search at each depth fit
-  pursue_fits : (k : ℕ) (sub : Searcher) → Roomy k sub → (l : Label) → Narrow B.width l → (i : ℕ) (o : Obligation) → obliged_at B l i ≡ o
+  pursue_fits : (k : ℕ) (sub : Searcher) → Roomy k sub → (l : Label) → Narrow B.width l → (i : ℕ) (o : Option Demand) → obliged_at B l i ≡ o
       → (st : List Label) → Apart B st → n ≤ length st + k → Fits B n k (pursue H B sub l o st)
   unfolding pursue reuse
-  pursue_fits k sub good l p i Idle w st a b = (a, b)
-  pursue_fits k sub good l p i (Wants r s x) w st a b = go (any_contains st (seed_of H B l r s x)) refl
+  pursue_fits k sub good l p i None w st a b = (a, b)
+  pursue_fits k sub good l p i (Some d) w st a b = go (any_contains st seed) refl
     where
-      go : (c : Bool) → any_contains st (seed_of H B l r s x) ≡ c → Fits B n k (reuse c sub st (seed_of H B l r s x))
+      seed : Label
+      seed = seed_of H B l d.role d.sign d.part
+
+      go : (c : Bool) → any_contains st seed ≡ c → Fits B n k (reuse c sub st seed)
       go true e = (a, b)
-      go false e = good st (seed_of H B l r s x) a b (obligation_fresh l p i r s x w st e)
+      go false e = good st seed a b (obligation_fresh l p i d.role d.sign d.part w st e)
 
   meet_fits : (k : ℕ) (sub : Searcher) → Roomy k sub → (l : Label) → Narrow B.width l → (d i : ℕ) (st : List Label) → Apart B st → n ≤ length st + k
       → Fits B n k (meet_from H B sub l d i st)
@@ -267,10 +269,10 @@ module _ (H : RoleBox) (B : Table) (n : ℕ) where
   Sparing sub = (st : List Label) (seed : Label) → Within n (sub st seed)
 
   -- and so do an obligation, several, the expansions, and the search at each depth
-  pursue_within : (sub : Searcher) → Sparing sub → (l : Label) (o : Obligation) (st : List Label) → length st ≤ n → Within n (pursue H B sub l o st)
+  pursue_within : (sub : Searcher) → Sparing sub → (l : Label) (o : Option Demand) (st : List Label) → length st ≤ n → Within n (pursue H B sub l o st)
   unfolding pursue reuse
-  pursue_within sub good l Idle st b = b
-  pursue_within sub good l (Wants r s a) st b = go (seed_of H B l r s a) (any_contains st (seed_of H B l r s a))
+  pursue_within sub good l None st b = b
+  pursue_within sub good l (Some d) st b = go (seed_of H B l d.role d.sign d.part) (any_contains st (seed_of H B l d.role d.sign d.part))
     where
       go : (seed : Label) (c : Bool) → Within n (reuse c sub st seed)
       go seed true = b

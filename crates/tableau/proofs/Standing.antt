@@ -5,11 +5,10 @@ use Rattle.meaning.specs.declared.Concept.TheVariants.{Nothing, Everything, Name
 use Rattle.tableau.specs.declared.Label.{Label}
 use Rattle.tableau.specs.declared.Entry.{Entry}
 use Rattle.tableau.specs.declared.Entry.TheVariants.{Plain, Inclusion, Inclusions}
-use Rattle.tableau.specs.declared.Obligation.TheVariants.{Wants}
 use Rattle.tableau.specs.Labels.{empty, in_label, any_contains}
 use Rattle.tableau.specs.Entries.{Table}
 use Rattle.tableau.specs.Expansions.{clash}
-use Rattle.tableau.specs.Seeds.{obliged_at, seed_of}
+use Rattle.tableau.specs.Seeds.{obliged_at, seed_of, wants}
 
 -- what a label that holds the signed entry has to hold besides
 abbrev pub Saturates : Entry → Bool → Label → Type 0
@@ -35,7 +34,7 @@ pub record Saturated (B : Table) (l : Label) : Type 0 where
 -- every label of the list is saturated, and the seed of each of its obligations is contained in a label of the list
 pub record Stands (H : RoleBox) (B : Table) (ls : List Label) : Type 0 where
   pub full : (x : ℕ) → x < length ls → Saturated B (get_or ls x empty)
-  pub met : (x i r a : ℕ) (s : Bool) → x < length ls → i < B.width → obliged_at B (get_or ls x empty) i ≡ Wants r s a
+  pub met : (x i r a : ℕ) (s : Bool) → x < length ls → i < B.width → obliged_at B (get_or ls x empty) i ≡ wants r s a
       → any_contains ls (seed_of H B (get_or ls x empty) r s a) ≡ true
 
 -- the label is one of the list

@@ -8,9 +8,8 @@ use Rattle.meaning.specs.Universal.{with_universal}
 use Rattle.meaning.specs.declared.Quantifier.TheVariants.{Forall}
 use Rattle.tableau.specs.declared.Label.{Label}
 use Rattle.tableau.specs.declared.Entry.TheVariants.{Inclusion}
-use Rattle.tableau.specs.declared.Obligation.TheVariants.{Wants}
 use Rattle.tableau.specs.Labels.{empty, in_label}
-use Rattle.tableau.specs.Seeds.{obliged_at, seed_of}
+use Rattle.tableau.specs.Seeds.{obliged_at, seed_of, wants}
 use Rattle.tableau.specs.Found.{found}
 use Rattle.tableau.specs.Working.{plain_of, book_entry, everywhere_entry, width_of, entry_of, table_of, rooted}
 use Rattle.tableau.specs.Promises.{Opens, Satisfies, Seed, found_world, Realised, SuccessIsRight}
@@ -34,7 +33,7 @@ module _ (H : RoleBox) (K : Book) (P : Opens H K) where
   Ruled l = (in_label l true (book_entry H K) ≡ true) × (in_label l true (everywhere_entry H K) ≡ true)
 
   -- *everywhere* passes both on to every successor
-  ruled_passed : (l : Label) (i r a : ℕ) (s : Bool) → i < width_of H K → obliged_at (table_of H K) l i ≡ Wants r s a → Ruled l → Ruled (seed_of (with_universal H) (table_of H K) l r s a)
+  ruled_passed : (l : Label) (i r a : ℕ) (s : Bool) → i < width_of H K → obliged_at (table_of H K) l i ≡ wants r s a → Ruled l → Ruled (seed_of (with_universal H) (table_of H K) l r s a)
   ruled_passed l i r a s w e ruled =
       let U = with_universal H in
       let B = table_of H K in

@@ -1,5 +1,5 @@
 -- What the labels say is true in the found world, and its roles are as the hierarchy says.
-use Rattle.std.proofs.Common.{◌≡◌, ℕ, zero, suc, ◌+◌, ◌<◌, ◌≤◌, Bool, true, false, not, ◌&&◌, eqb, ◌⊎◌, List, length, get_or, sym, refl, ap, ◌∙◌, subst, inl, inr, ⊎_elim, arith}
+use Rattle.std.proofs.Common.{◌≡◌, ℕ, zero, suc, ◌+◌, ◌<◌, ◌≤◌, Bool, true, false, not, ◌&&◌, eqb, ◌⊎◌, List, length, get_or, sym, refl, ap, ◌∙◌, subst, inl, inr, ⊎_elim, arith, Option, None, Some}
 use Rattle.std.proofs.lemmas.Bool.{cases_Bool, cases_lt, and_parts, and_from, and_left, and_right, or_cases, or_left, or_right, or_from, both_ways, not_from_false, eqb-true, eq-eqb}
 use Rattle.meaning.specs.Chains.{reach}
 use Rattle.meaning.specs.Orders.{RoleBox}
@@ -13,12 +13,11 @@ use Rattle.meaning.proofs.Tests.{any_from, any_some, none_any, all_from}
 use Rattle.tableau.specs.declared.Label.{Label}
 use Rattle.tableau.specs.declared.Entry.{Entry}
 use Rattle.tableau.specs.declared.Entry.TheVariants.{Plain, Inclusion, Inclusions}
-use Rattle.tableau.specs.declared.Obligation.{Obligation}
-use Rattle.tableau.specs.declared.Obligation.TheVariants.{Idle, Wants}
+use Rattle.tableau.specs.declared.Demand.{Demand}
 use Rattle.tableau.specs.Labels.{empty, in_label, contains, lowest}
 use Rattle.tableau.specs.Entries.{Table, LowerEntry, Ordered, means, Meaning, Follows, Concepts, Ruling, Tabled}
 use Rattle.tableau.specs.Expansions.{absurd_entry, clash}
-use Rattle.tableau.specs.Seeds.{obliges, sign_of, obliged_at, role_of, seed_of}
+use Rattle.tableau.specs.Seeds.{obliges, sign_of, obliged_at, role_of, seed_of, wants}
 use Rattle.tableau.specs.Found.{is_name, leads, edge, joined, borne, found}
 use Rattle.tableau.proofs.Tests.{never, not_sign}
 use Rattle.tableau.proofs.Labelling.{Holds, There, lowest_there, contains_at}
@@ -41,12 +40,13 @@ reach_wider R S sub (suc n) x y e = ⊎_elim
 
 module _ (H : RoleBox) (O : Ordered H) (B : Table) (ls : List Label) where
   -- an obligation that leads below r leads below s, if r is below s; and so does an edge, and what is joined
-  leads_wider : (l : Label) (o : Obligation) (r s y : ℕ) → H.below r s ≡ true → leads H B ls l o r y ≡ true → leads H B ls l o s y ≡ true
+  leads_wider : (l : Label) (o : Option Demand) (r s y : ℕ) → H.below r s ≡ true → leads H B ls l o r y ≡ true → leads H B ls l o s y ≡ true
   unfolding leads
-  leads_wider l Idle r s y b e = e
-  leads_wider l (Wants t u a) r s y b e =
-      let p = and_parts (H.below t r) (eqb (lowest ls (seed_of H B l t u a)) y) e in
-      and_from (H.below t s) (eqb (lowest ls (seed_of H B l t u a)) y) (O.law.transitive t r s p.0 b) p.1
+  leads_wider l None r s y b e = e
+  leads_wider l (Some d) r s y b e =
+      let met = eqb (lowest ls (seed_of H B l d.role d.sign d.part)) y in
+      let p = and_parts (H.below d.role r) met e in
+      and_from (H.below d.role s) met (O.law.transitive d.role r s p.0 b) p.1
 
   edge_wider : (r s x y : ℕ) → H.below r s ≡ true → edge H B ls r x y ≡ true → edge H B ls s x y ≡ true
   unfolding edge
@@ -163,7 +163,7 @@ module _ (H : RoleBox) (O : Ordered H) (B : Table) (T : Tabled H B) (ls : List L
   calm_at x l = (S.full x l).calm
 
   -- the node that an obligation leads to
-  there : (x i r a : ℕ) (s : Bool) → x < length ls → i < B.width → obliged_at B (get_or ls x empty) i ≡ Wants r s a
+  there : (x i r a : ℕ) (s : Bool) → x < length ls → i < B.width → obliged_at B (get_or ls x empty) i ≡ wants r s a
       → There ls (seed_of H B (get_or ls x empty) r s a)
   there x i r a s l w e = lowest_there ls (seed_of H B (get_or ls x empty) r s a) (S.met x i r a s l w e)
 
@@ -174,24 +174,24 @@ module _ (H : RoleBox) (O : Ordered H) (B : Table) (T : Tabled H B) (ls : List L
       let k = any_some B.width (λ i. leads H B ls (get_or ls x empty) (obliged_at B (get_or ls x empty) i) t y) e in
       go k.0 k.1 (obliged_at B (get_or ls x empty) k.0) refl k.2
     where
-      go : (i : ℕ) → i < B.width → (o : Obligation) → obliged_at B (get_or ls x empty) i ≡ o → leads H B ls (get_or ls x empty) o t y ≡ true → Arc H B ls t x y
-      go i w Idle e h = absurd (both_ways false refl h)
-      go i w (Wants r s a) e h =
-          let z = seed_of H B (get_or ls x empty) r s a in
-          let p = and_parts (H.below r t) (eqb (lowest ls z) y) h in
+      go : (i : ℕ) → i < B.width → (o : Option Demand) → obliged_at B (get_or ls x empty) i ≡ o → leads H B ls (get_or ls x empty) o t y ≡ true → Arc H B ls t x y
+      go i w None e h = absurd (both_ways false refl h)
+      go i w (Some d) e h =
+          let z = seed_of H B (get_or ls x empty) d.role d.sign d.part in
+          let p = and_parts (H.below d.role t) (eqb (lowest ls z) y) h in
           let g = eqb-true (lowest ls z) y p.1 in
-          let k = there x i r a s l w e in
+          let k = there x i d.role d.part d.sign l w e in
           record {
-            role = r;
-            sign = s;
-            part = a;
+            role = d.role;
+            sign = d.sign;
+            part = d.part;
             under = p.0;
             inside = omega (arith, g, k.inside);
             gets = contains_at (get_or ls y empty) z (subst (λ v. contains (get_or ls v empty) z ≡ true) g k.holds_it);
           }
 
   -- the edge of an obligation
-  edge_from : (x i r a : ℕ) (s : Bool) → i < B.width → r < H.count → obliged_at B (get_or ls x empty) i ≡ Wants r s a
+  edge_from : (x i r a : ℕ) (s : Bool) → i < B.width → r < H.count → obliged_at B (get_or ls x empty) i ≡ wants r s a
       → edge H B ls r x (lowest ls (seed_of H B (get_or ls x empty) r s a)) ≡ true
   unfolding edge leads
   edge_from x i r a s w c e =
@@ -301,7 +301,7 @@ module _ (H : RoleBox) (O : Ordered H) (B : Table) (T : Tabled H B) (ls : List L
             let m = get_or ls x empty in
             let z = seed_of H B m r (sign_of q s) a in
             let y = lowest ls z in
-            let k : obliged_at B m i ≡ Wants r (sign_of q s) a = obligation_is B m (calm_at x l) i w s g q r a e o in
+            let k : obliged_at B m i ≡ wants r (sign_of q s) a = obligation_is B m (calm_at x l) i w s g q r a e o in
             let t = there x i r a (sign_of q s) l w k in
             oblige (found H B ls) r a x h q s o y t.inside
             (edge_joins H O B ls r x y (edge_from x i r a (sign_of q s) w (T.roles i r a q w e) k))

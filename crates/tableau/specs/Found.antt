@@ -1,5 +1,5 @@
 -- The world that a list of labels describes: its individuals are the places of the list.
-use Rattle.std.specs.Prelude.{ℕ, Bool, true, false, ◌&&◌, ◌||◌, List, length, ◌==◌, nat_lt, slice_index_or}
+use Rattle.std.specs.Prelude.{ℕ, Bool, true, false, ◌&&◌, ◌||◌, List, length, ◌==◌, nat_lt, slice_index_or, Option, None, Some}
 use Rattle.meaning.specs.Bounded.{any}
 use Rattle.meaning.specs.Worlds.{Interpretation}
 use Rattle.meaning.specs.Orders.{RoleBox}
@@ -8,8 +8,7 @@ use Rattle.meaning.specs.declared.Concept.TheVariants.{Nothing, Everything, Name
 use Rattle.tableau.specs.declared.Label.{Label}
 use Rattle.tableau.specs.declared.Entry.{Entry}
 use Rattle.tableau.specs.declared.Entry.TheVariants.{Plain, Inclusion, Inclusions}
-use Rattle.tableau.specs.declared.Obligation.{Obligation}
-use Rattle.tableau.specs.declared.Obligation.TheVariants.{Idle, Wants}
+use Rattle.tableau.specs.declared.Demand.{Demand}
 use Rattle.tableau.specs.Labels.{empty, in_label, lowest}
 use Rattle.tableau.specs.Entries.{Table}
 use Rattle.tableau.specs.Seeds.{obliged_at, seed_of}
@@ -31,9 +30,9 @@ module _ (H : RoleBox) (B : Table) (ls : List Label) where
   label_of x = slice_index_or ls x empty
 
   -- the obligation of a node labelled l leads to y, the lowest node whose label contains the seed, by a role below t
-  unfoldable pub leads : Label → Obligation → ℕ → ℕ → Bool
-  leads l Idle t y = false
-  leads l (Wants r s a) t y = H.below r t && lowest ls (seed_of H B l r s a) == y
+  unfoldable pub leads : Label → Option Demand → ℕ → ℕ → Bool
+  leads l None t y = false
+  leads l (Some d) t y = H.below d.role t && lowest ls (seed_of H B l d.role d.sign d.part) == y
 
   -- an edge whose role is below t
   unfoldable pub edge : ℕ → ℕ → ℕ → Bool

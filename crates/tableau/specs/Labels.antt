@@ -16,6 +16,11 @@ unfoldable pub put : Bool → ℕ → Label → Label
 put true i l = record { plus = bit_or l.plus (2 ^ i); minus = l.minus }
 put false i l = record { plus = l.plus; minus = bit_or l.minus (2 ^ i) }
 
+-- the label with every member of the set, signed s, in it too
+abbrev pub put_all : Bool → ℕ → Label → Label
+put_all true set l = record { plus = bit_or l.plus set; minus = l.minus }
+put_all false set l = record { plus = l.plus; minus = bit_or l.minus set }
+
 -- is every signed entry of the seed in the label
 unfoldable pub contains : Label → Label → Bool
 contains l seed = bit_and seed.plus l.plus == seed.plus && bit_and seed.minus l.minus == seed.minus

@@ -2,11 +2,10 @@
 use Rattle.std.specs.Prelude.{◌≡◌, ℕ, suc, ◌<◌, Bool, false, cond, List, [], ◌∷◌, ◌++◌, length, get_or, ◌≢◌, slice_index_or}
 use Rattle.meaning.specs.Orders.{RoleBox}
 use Rattle.tableau.specs.declared.Label.{Label}
-use Rattle.tableau.specs.declared.Obligation.TheVariants.{Wants}
 use Rattle.tableau.specs.Labels.{empty, any_contains, lowest}
 use Rattle.tableau.specs.Entries.{Table}
 use Rattle.tableau.specs.Expansions.{expansions}
-use Rattle.tableau.specs.Seeds.{obliged_at, seed_of}
+use Rattle.tableau.specs.Seeds.{obliged_at, seed_of, wants}
 use Rattle.tableau.specs.Search.{failed, stands, pursue, try_each, explore}
 
 -- The labels of the list are pairwise different.
@@ -33,7 +32,7 @@ pub data Moment (H : RoleBox) (B : Table) (n : ℕ) (root : Label) : ℕ → ℕ
       → Moment H B n root k x (suc i) ms
   -- no label contains the seed of the obligation, and a node is made for it, which is at work then
   deeper : (k x i r a : ℕ) (s : Bool) (st : List Label) (e : Label) → Moment H B n root (suc k) x i st → i < B.width
-      → obliged_at B (slice_index_or st x empty) i ≡ Wants r s a → any_contains st (seed_of H B (slice_index_or st x empty) r s a) ≡ false
+      → obliged_at B (slice_index_or st x empty) i ≡ wants r s a → any_contains st (seed_of H B (slice_index_or st x empty) r s a) ≡ false
       → Tried H B n k st (seed_of H B (slice_index_or st x empty) r s a) e
       → Moment H B n root k (length st) 0 (st ++ e ∷ [])
 
@@ -50,6 +49,6 @@ pub record EdgeChosen (H : RoleBox) (B : Table) (n : ℕ) (root : Label) (ls : L
   pub later : List Label
   pub moment : Moment H B n root depth x i before
   pub label : get_or before x empty ≡ slice_index_or ls x empty
-  pub met : pursue H B (explore H B n depth) (slice_index_or ls x empty) (Wants r s a) before ≡ stands after
+  pub met : pursue H B (explore H B n depth) (slice_index_or ls x empty) (wants r s a) before ≡ stands after
   pub lasts : ls ≡ after ++ later
   pub edge : lowest ls (seed_of H B (slice_index_or ls x empty) r s a) ≡ chosen before (seed_of H B (slice_index_or ls x empty) r s a)

@@ -5,10 +5,9 @@ use Rattle.meaning.specs.Orders.{RoleBox}
 use Rattle.meaning.specs.Universal.{with_universal}
 use Rattle.meaning.specs.Books.{Book, Sound, Keeps}
 use Rattle.tableau.specs.declared.Label.{Label}
-use Rattle.tableau.specs.declared.Obligation.TheVariants.{Wants}
 use Rattle.tableau.specs.Labels.{empty, in_label, lowest}
 use Rattle.tableau.specs.Entries.{Ordered}
-use Rattle.tableau.specs.Seeds.{obliged_at, seed_of}
+use Rattle.tableau.specs.Seeds.{obliged_at, seed_of, wants}
 use Rattle.tableau.specs.Search.{Outcome, failed, full, stands, pursue, explore}
 use Rattle.tableau.specs.Found.{found, only_roles}
 use Rattle.tableau.specs.Moments.{Different, Moment, chosen, EdgeChosen}
@@ -86,10 +85,10 @@ StandingLabelsDiffer = (H : RoleBox) (K : Book) → Opens H K → (s : Label) �
 -- that contains its seed is the one chosen then; and in the end every obligation of every node has been met so.
 pub record KeepsEdges (H : RoleBox) (K : Book) (s : Label) (n : ℕ) : Type 0 where
   pub stay : (k r a : ℕ) (t : Bool) (l : Label) (st ms more : List Label)
-      → pursue (with_universal H) (table_of H K) (explore (with_universal H) (table_of H K) n k) l (Wants r t a) st ≡ stands ms
+      → pursue (with_universal H) (table_of H K) (explore (with_universal H) (table_of H K) n k) l (wants r t a) st ≡ stands ms
       → lowest (ms ++ more) (seed_of (with_universal H) (table_of H K) l r t a) ≡ chosen st (seed_of (with_universal H) (table_of H K) l r t a)
   pub met : (ls : List Label) → search_from H K s n ≡ stands ls → (x i r a : ℕ) (t : Bool) → x < length ls → i < width_of H K
-      → obliged_at (table_of H K) (slice_index_or ls x empty) i ≡ Wants r t a
+      → obliged_at (table_of H K) (slice_index_or ls x empty) i ≡ wants r t a
       → EdgeChosen (with_universal H) (table_of H K) n (rooted H K s) ls x i r t a
 
 abbrev pub EdgesAreThoseChosen : Type 0

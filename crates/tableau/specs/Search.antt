@@ -1,9 +1,8 @@
 -- The search as a value.
-use Rattle.std.specs.Prelude.{ℕ, zero, suc, Bool, true, false, List, [], ◌∷◌, ◌++◌, length, nat_le}
+use Rattle.std.specs.Prelude.{ℕ, zero, suc, Bool, true, false, List, [], ◌∷◌, ◌++◌, length, nat_le, Option, None, Some}
 use Rattle.meaning.specs.Orders.{RoleBox}
 use Rattle.tableau.specs.declared.Label.{Label}
-use Rattle.tableau.specs.declared.Obligation.{Obligation}
-use Rattle.tableau.specs.declared.Obligation.TheVariants.{Idle, Wants}
+use Rattle.tableau.specs.declared.Demand.{Demand}
 use Rattle.tableau.specs.Labels.{any_contains}
 use Rattle.tableau.specs.Entries.{Table}
 use Rattle.tableau.specs.Expansions.{expansions}
@@ -37,9 +36,9 @@ reuse false sub st seed = sub st seed
 
 module _ (H : RoleBox) (B : Table) where
   -- an obligation, if there is one, is met by a label that stands or by a further node
-  unfoldable pub pursue : Searcher → Label → Obligation → List Label → Outcome
-  pursue sub l Idle st = stands st
-  pursue sub l (Wants r s a) st = reuse (any_contains st (seed_of H B l r s a)) sub st (seed_of H B l r s a)
+  unfoldable pub pursue : Searcher → Label → Option Demand → List Label → Outcome
+  pursue sub l None st = stands st
+  pursue sub l (Some d) st = reuse (any_contains st (seed_of H B l d.role d.sign d.part)) sub st (seed_of H B l d.role d.sign d.part)
 
   -- the obligations of d entries from i on, by rising number
   unfoldable pub meet_from : Searcher → Label → ℕ → ℕ → List Label → Outcome

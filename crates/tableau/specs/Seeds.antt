@@ -1,5 +1,5 @@
 -- Obligations of a label, and the seed of a successor.
-use Rattle.std.specs.Prelude.{ℕ, Bool, true, false, cond, not, ◌&&◌}
+use Rattle.std.specs.Prelude.{ℕ, Bool, true, false, cond, not, ◌&&◌, Option, None, Some}
 use Rattle.meaning.specs.Orders.{RoleBox}
 use Rattle.meaning.specs.declared.Concept.TheVariants.{Nothing, Everything, Name, Not, And, Or, Restriction}
 use Rattle.meaning.specs.declared.Quantifier.{Quantifier}
@@ -7,8 +7,7 @@ use Rattle.meaning.specs.declared.Quantifier.TheVariants.{Exists, Forall, NoneOf
 use Rattle.tableau.specs.declared.Label.{Label}
 use Rattle.tableau.specs.declared.Entry.{Entry}
 use Rattle.tableau.specs.declared.Entry.TheVariants.{Plain, Inclusion, Inclusions}
-use Rattle.tableau.specs.declared.Obligation.{Obligation}
-use Rattle.tableau.specs.declared.Obligation.TheVariants.{Idle, Wants}
+use Rattle.tableau.specs.declared.Demand.{Demand}
 use Rattle.tableau.specs.Folds.{fold}
 use Rattle.tableau.specs.Labels.{empty, in_label, put}
 use Rattle.tableau.specs.Entries.{Table}
@@ -25,21 +24,25 @@ sign_of Exists s = s
 sign_of Forall s = s
 sign_of NoneOf s = not s
 
--- what a signed entry obliges to
-abbrev pub obligation : Entry → Bool → Obligation
-obligation (Plain Nothing) s = Idle
-obligation (Plain Everything) s = Idle
-obligation (Plain (Name n)) s = Idle
-obligation (Plain (Not a)) s = Idle
-obligation (Plain (And a b)) s = Idle
-obligation (Plain (Or a b)) s = Idle
-obligation (Plain (Restriction q r a)) s = cond (obliges q s) (Wants r (sign_of q s) a) Idle
-obligation (Inclusion c d) s = Idle
-obligation (Inclusions lo n) s = Idle
+-- the demand of a successor by r, in a (true) or outside it
+abbrev pub wants : ℕ → Bool → ℕ → Option Demand
+wants r s a = Some (record { role = r; sign = s; part = a })
+
+-- what a signed entry obliges to, if to anything
+abbrev pub obligation : Entry → Bool → Option Demand
+obligation (Plain Nothing) s = None
+obligation (Plain Everything) s = None
+obligation (Plain (Name n)) s = None
+obligation (Plain (Not a)) s = None
+obligation (Plain (And a b)) s = None
+obligation (Plain (Or a b)) s = None
+obligation (Plain (Restriction q r a)) s = cond (obliges q s) (wants r (sign_of q s) a) None
+obligation (Inclusion c d) s = None
+obligation (Inclusions lo n) s = None
 
 -- what entry i obliges a node with the label to
-abbrev pub obliged_at : Table → Label → ℕ → Obligation
-obliged_at B l i = cond (in_label l true i) (obligation (B.entry i) true) (cond (in_label l false i) (obligation (B.entry i) false) Idle)
+abbrev pub obliged_at : Table → Label → ℕ → Option Demand
+obliged_at B l i = cond (in_label l true i) (obligation (B.entry i) true) (cond (in_label l false i) (obligation (B.entry i) false) None)
 
 -- the role of a restriction; it is asked of restrictions alone
 abbrev pub role_of : Entry → ℕ

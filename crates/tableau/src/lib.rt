@@ -1,7 +1,10 @@
-// The search for a world, as a value, and the theorems about it. There is no code here beyond the types that the
-// definitions share with the code of the search, and the functions that carry the theorems.
+// The search for a world, as a value, and the theorems about it. The code here is the types that the definitions share with
+// the code of the search, and the functions that carry the theorems.
 #![tactic(auto)]
 
+ghost use Rattle.std.specs.Prelude.{◌≡◌, ℕ, ◌<◌, ◌||◌};
+ghost use Rattle.words.specs.Sets.{has};
+ghost use Rattle.tableau.specs.Labels.{in_label, put, put_all, contains};
 ghost use Rattle.tableau.specs.Examples.{WorkedExamples, ExamplesOpen};
 ghost use Rattle.tableau.specs.Promises.{FailureIsRight, SuccessIsRight, RoomSuffices, SearchWithinRoom, StandingLabelsDiffer, EdgesAreThoseChosen, SearchDecides};
 
@@ -12,6 +15,61 @@ use meaning::Concept;
 pub struct Label {
     pub plus: u64,
     pub minus: u64,
+}
+
+impl Label {
+    // The label that holds no entry.
+    pub const EMPTY: Label = Label { plus: 0, minus: 0 };
+
+    // Whether the label holds entry i with the sign.
+    #[tactic(auto, unfolding(crate::specs::Labels::in_label))]
+    pub fn holds(self, sign: bool, i: usize) -> bool
+        requires { i < 64 }
+        ensures { result ≡ in_label self sign i }
+    {
+        words::member(if sign { self.plus } else { self.minus }, i)
+    }
+
+    // The entries that the label holds, with either sign.
+    pub fn entries(self) -> u64
+        ensures { (i : ℕ) → has result i ≡ (has self.plus i || has self.minus i) }
+    {
+        words::union(self.plus, self.minus)
+    }
+
+    // The label with entry i, so signed, in it too.
+    #[tactic(auto, unfolding(crate::specs::Labels::put))]
+    pub fn with(self, sign: bool, i: usize) -> Label
+        requires { i < 64 }
+        ensures { result ≡ put sign i self }
+    {
+        self.with_all(sign, words::single(i))
+    }
+
+    // The label with every member of the set, so signed, in it too.
+    pub fn with_all(self, sign: bool, set: u64) -> Label
+        ensures { result ≡ put_all sign set self }
+    {
+        if sign {
+            Label {
+                plus: self.plus | set,
+                ..self
+            }
+        } else {
+            Label {
+                minus: self.minus | set,
+                ..self
+            }
+        }
+    }
+
+    // Whether every signed entry of the seed is in the label.
+    #[tactic(auto, unfolding(crate::specs::Labels::contains))]
+    pub fn contains(self, seed: Label) -> bool
+        ensures { result ≡ contains self seed }
+    {
+        words::subset(seed.plus, self.plus) && words::subset(seed.minus, self.minus)
+    }
 }
 
 // A working entry.
@@ -26,17 +84,19 @@ pub enum Entry {
 }
 
 // What an entry that is taken makes of a label: one label, or two alternatives.
+// Stays: neither way is a lack or a refusal, so that an Option of the second label would say less than the two names.
 #[derive(Clone, Copy)]
 pub enum Ways {
     One(Label),
     Two(Label, Label),
 }
 
-// What an entry obliges a node to: nothing, or a successor by a role, in a part (true) or outside it.
+// What an entry that obliges a node asks for: a successor by the role, in the part (true) or outside it.
 #[derive(Clone, Copy)]
-pub enum Obligation {
-    Idle,
-    Wants(u8, bool, u8),
+pub struct Demand {
+    pub role: u8,
+    pub sign: bool,
+    pub part: u8,
 }
 
 // The worked examples hold of the definitions.
