@@ -23,6 +23,6 @@ impl Register {
     pub fn class_count(&self) -> usize
         ensures { result ≡ length (classes_of self.now) }
     {
-        self.count
+        self.classes.len()
     }
 }
