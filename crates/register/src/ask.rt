@@ -17,18 +17,14 @@ impl Register {
         ensures { done (reply_of said result) self.now nodes.new [] ≡ step (setup_of self.now) (classes_of self.now) (Call.ask a b (length nodes.old)) }
     {
         let workspace = Workspace(nodes);
-        if a > self.classes.len() {
-            return Err(Denial::Class(a));
-        }
-        if b > self.classes.len() {
-            return Err(Denial::Class(b));
-        }
+        self.given(a)?;
+        self.given(b)?;
         wipe(workspace.0);
         self.within(a, b, workspace.0)
     }
 
-    #[tactic(auto, using(crate::proofs::Asking::zero_within, crate::proofs::Asking::not_in_zero, crate::proofs::Asking::asking_told))]
     // The same for numbers that were given.
+    #[tactic(auto, using(crate::proofs::Asking::zero_within, crate::proofs::Asking::not_in_zero, crate::proofs::Asking::asking_told))]
     fn within(&self, a: usize, b: usize, nodes: &mut [Node]) -> Result<bool, Denial>
         requires a { a ≤ length (classes_of self.now) }
         requires b { b ≤ length (classes_of self.now) }

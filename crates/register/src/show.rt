@@ -44,12 +44,8 @@ impl Register {
         ensures { done (reply_of shown_reply result) self.now nodes.new sheet.new ≡ step (setup_of self.now) (classes_of self.now) (Call.show a b (length nodes.old) sheet.old) }
     {
         let workspace = Workspace(nodes);
-        if a > self.classes.len() {
-            return Err(Denial::Class(a));
-        }
-        if b > self.classes.len() {
-            return Err(Denial::Class(b));
-        }
+        self.given(a)?;
+        self.given(b)?;
         if a == b {
             return Err(Denial::Equal(a));
         }
@@ -72,10 +68,10 @@ impl Register {
         ensures sheet { sheet.new ≡ (showing (setup_of self.now) (classes_of self.now) a b (length nodes.old) sheet.old).sheet }
     {
         if let Some(m) = self.apart(a, b, nodes).map_err(|_| Denial::Room(a))? {
-            return self.put_on(&nodes[0..m], Side::First, sheet);
+            return self.put_on(&nodes[..m], Side::First, sheet);
         }
         match self.apart(b, a, nodes).map_err(|_| Denial::Room(a))? {
-            Some(m) => self.put_on(&nodes[0..m], Side::Second, sheet),
+            Some(m) => self.put_on(&nodes[..m], Side::Second, sheet),
             None => Err(Denial::Equal(a)),
         }
     }
@@ -116,7 +112,7 @@ impl Register {
         ensures sheet { sheet.new ≡ (showed_world (setup_of self.now) sheet.old (side_number side) (labels nodes.now)).sheet }
     {
         let world = Found::new(&self.plan, nodes)?;
-        let individuals = draw(&world, (self.plan.count - 1) as u8, sheet)?;
+        let individuals = draw(&world, self.role_count() as u8, sheet)?;
         Ok(Shown { individuals, side })
     }
 }

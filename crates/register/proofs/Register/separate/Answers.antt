@@ -1,9 +1,7 @@
-use Rattle.std.proofs.Common.{◌≡◌, length, take, None, Ok, Err, ap, ◌∙◌, subst, arith, rules}
-use native.Mathlib.Nat.{sub-zero}
-use Rattle.search.specs.Nodes.{labels, Says}
+use Rattle.std.proofs.Common.{◌≡◌, length, None, Ok, Err, ap, ◌∙◌, subst, arith, rules}
+use Rattle.search.specs.Nodes.{Says}
 use Rattle.search.proofs.Steps.{all_blank}
 use Rattle.runs.specs.Setups.{apart}
-use Rattle.runs.specs.Steps.{showed_world}
 use Rattle.register.specs.Registers.{setup_of, classes_of}
 use Rattle.register.proofs.Showing.{first_stood, first_full, second_stood, second_full, second_failed}
 use Rattle.register.proofs.Register.separate.Goals as goal
@@ -19,8 +17,7 @@ returns-in_err-m c =
 pub returns-in-Some : goal.returns-in-Some
 returns-in-Some c =
     let g = c.args.self.now in
-    let s = ap (λ k. showed_world (setup_of g) c.args.sheet.now 1 (labels (take k c.apart.new.nodes))) (sub-zero c.in-Some.m)
-    ∙ first_stood (setup_of g) (classes_of g) c.args.a c.args.b (length c.args.nodes.now) c.args.sheet.now
+    let s = first_stood (setup_of g) (classes_of g) c.args.a c.args.b (length c.args.nodes.now) c.args.sheet.now
     c.apart.new.nodes c.apart.result c.apart.ensures.says c.in-Some.m (search rules) in
     record { reply = c.put_on.ensures.reply ∙ ap (λ x. x.reply) s; sheet = c.put_on.ensures.sheet ∙ ap (λ x. x.sheet) s }
 
@@ -44,8 +41,7 @@ pub returns-in-Some-2 : goal.returns-in-Some-2
 returns-in-Some-2 c =
     let g = c.args.self.now in
     let n = length c.args.nodes.now in
-    let s = ap (λ k. showed_world (setup_of g) c.args.sheet.now 2 (labels (take k c.apart-2.new.nodes))) (sub-zero c.in-Some-2.m)
-    ∙ second_stood (setup_of g) (classes_of g) c.args.a c.args.b n c.args.sheet.now c.apart.new.nodes c.apart.result c.apart.ensures.says (search rules)
+    let s = second_stood (setup_of g) (classes_of g) c.args.a c.args.b n c.args.sheet.now c.apart.new.nodes c.apart.result c.apart.ensures.says (search rules)
     (length c.apart.new.nodes) (omega arith) c.apart-2.new.nodes c.apart-2.result c.apart-2.ensures.says c.in-Some-2.m (search rules) in
     record { reply = c.put_on-in-Some-2.ensures.reply ∙ ap (λ x. x.reply) s; sheet = c.put_on-in-Some-2.ensures.sheet ∙ ap (λ x. x.sheet) s }
 
