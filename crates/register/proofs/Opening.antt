@@ -17,7 +17,8 @@ setup_same H K p e h P same =
     let roles : p.count - 1 ≡ H.count = omega (arith, h.count_is, P.few) in
     λ i. record { box = planned_box H K p h i; table = planned_table H K p h i; roles = roles i; entries = same i }
 
--- so every run on it is right
-pub right_from : (H : RoleBox) (K : Book) (p : Plan) (e : ℕ) → Planned H K p → Opens H K → e ≡ K.entries
-    → (run : List Event) → Run (setup_in p e) [] run → Right H K run
-right_from H K p e h P same run steps = every_run_is_right H K P run (subst (λ S. Run S [] run) (setup_same H K p e h P same) steps)
+-- so every run on it is right, where no class stands yet
+pub right_from : (H : RoleBox) (K : Book) (p : Plan) (e : ℕ) (cs : List ℕ) → Planned H K p → Opens H K → e ≡ K.entries → cs ≡ []
+    → (run : List Event) → Run (setup_in p e) cs run → Right H K run
+right_from H K p e cs h P same fresh run steps =
+    every_run_is_right H K P run (subst (λ S. Run S [] run) (setup_same H K p e h P same) (subst (λ ds. Run (setup_in p e) ds run) fresh steps))

@@ -1,16 +1,13 @@
 -- What a register holds and answers, as the definitions of a run speak of it.
-use Rattle.std.specs.Prelude.{ℕ, List, take, Ok, Err, Result}
+use Rattle.std.specs.Prelude.{ℕ, List, Ok, Err, Result}
 use Rattle.denial.specs.Denials.{denial_report}
 use Rattle.denial.specs.declared.Denial.{Denial}
 use Rattle.plan.specs.declared.Plan.{Plan}
 use Rattle.plan.specs.Meanings.{table_in, box_in, plan_roles}
-use Rattle.tableau.specs.Search.{Outcome, failed, full, stands}
 use Rattle.search.specs.declared.Node.{Node}
 use Rattle.runs.specs.Setups.{Setup}
 use Rattle.runs.specs.Steps.{Reply, refused, Done}
 use Rattle.register.specs.declared.Register.{Register}
-use Rattle.register.specs.declared.searches.Trial.{Trial}
-use Rattle.register.specs.declared.searches.Trial.TheVariants.{World, NoWorld, NoRoom}
 
 -- the setup of a plan, for a book with so many entries
 abbrev pub setup_in : Plan → ℕ → Setup
@@ -19,15 +16,9 @@ setup_in p entries = record { box = box_in p; table = table_in p; roles = plan_r
 abbrev pub setup_of : Register → Setup
 setup_of g = setup_in g.plan g.entries
 
--- what a search comes to, as the code tells it
-abbrev pub trial_of : Outcome → Trial
-trial_of failed = NoWorld
-trial_of full = NoRoom
-trial_of (stands ls) = World
-
 -- the entries by which the classes stand, that of class 1 first
 abbrev pub classes_of : Register → List ℕ
-classes_of g = take g.count g.classes
+classes_of g = g.classes.items
 
 -- the reply of a result, where `view` says what the value tells
 abbrev pub reply_of : {A : Type 0} → (A → Reply) → Result A Denial → Reply

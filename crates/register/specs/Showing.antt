@@ -1,9 +1,7 @@
 -- What show answers.
-use Rattle.std.specs.Prelude.{ℕ, ◌-◌, ◌<◌, cond, List, ◌==◌, slice_index}
+use Rattle.std.specs.Prelude.{ℕ, ◌-◌, cond, List, ◌==◌, slice_index}
 use Rattle.tableau.specs.declared.Label.{Label}
 use Rattle.tableau.specs.Working.{seed_of_not, seed_of_one}
-use Rattle.search.specs.declared.Answer.{Answer}
-use Rattle.search.specs.declared.Answer.TheVariants.{Failed, Full, Stands}
 use Rattle.runs.specs.Steps.{Reply, shown}
 use Rattle.register.specs.declared.show.Side.{Side}
 use Rattle.register.specs.declared.show.Side.TheVariants.{First, Second}
@@ -20,9 +18,3 @@ shown_reply s = shown s.individuals (side_number s.side)
 -- the seed of "a not b" for classes, a from 1 on, that stand by the entries; where b is 0, of "a" alone
 abbrev pub seed_of_apart : List ℕ → ℕ → ℕ → Label
 seed_of_apart entries a b = cond (b == 0) (seed_of_one (slice_index entries (a - 1))) (seed_of_not (slice_index entries (a - 1)) (slice_index entries (b - 1)))
-
--- a search that stands has a node at least
-abbrev pub SomeNode : Answer → Type 0
-SomeNode Failed = Unit {0}
-SomeNode Full = Unit {0}
-SomeNode (Stands m) = 0 < m

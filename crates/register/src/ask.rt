@@ -6,7 +6,7 @@ ghost use Rattle.runs.specs.Steps.{Call, said, asking, step};
 ghost use Rattle.register.specs.Registers.{setup_of, classes_of, reply_of, done};
 
 use crate::Register;
-use crate::searches::{Trial, seed_not};
+use crate::searches::seed_not;
 use denial::Denial;
 use search::{Node, Workspace, wipe};
 
@@ -17,19 +17,17 @@ impl Register {
         ensures { done (reply_of said result) self.now nodes.new [] ≡ step (setup_of self.now) (classes_of self.now) (Call.ask a b (length nodes.old)) }
     {
         let workspace = Workspace(nodes);
-        if a > self.count {
-            return Err(Denial::Class(a));
-        }
-        if b > self.count {
-            return Err(Denial::Class(b));
-        }
+        self.given(a)?;
+        self.given(b)?;
         wipe(workspace.0);
         self.within(a, b, workspace.0)
     }
 
     // The same for numbers that were given.
+    #[tactic(auto, using(crate::proofs::Asking::zero_within, crate::proofs::Asking::not_in_zero, crate::proofs::Asking::asking_told))]
     fn within(&self, a: usize, b: usize, nodes: &mut [Node]) -> Result<bool, Denial>
-        requires given { (a ≤ self.now.count) × (b ≤ self.now.count) }
+        requires a { a ≤ length (classes_of self.now) }
+        requires b { b ≤ length (classes_of self.now) }
         requires blank { nodes.old ≡ replicate (length nodes.old) blank }
         ensures value { reply_of said result ≡ asking (setup_of self.now) (classes_of self.now) a b (length nodes.old) }
         ensures wiped { nodes.new ≡ replicate (length nodes.old) blank }
@@ -41,10 +39,7 @@ impl Register {
             return Ok(false);
         }
         let seed = seed_not(self.classes[a - 1] as usize, self.classes[b - 1] as usize);
-        match self.tried(seed, nodes) {
-            Trial::NoRoom => Err(Denial::Room(a)),
-            Trial::World => Ok(false),
-            Trial::NoWorld => Ok(true),
-        }
+        let found = self.tried(seed, nodes).map_err(|_| Denial::Room(a))?;
+        Ok(!found)
     }
 }

@@ -1,8 +1,10 @@
 // What a register tells of itself.
-ghost use Rattle.std.specs.Prelude.{◌≡◌, length};
+ghost use Rattle.std.specs.Prelude.{◌≡◌, ◌<◌, ◌≤◌, length, IfErr, OnOk};
+ghost use Rattle.denial.specs.declared.Denial.{Denial};
 ghost use Rattle.register.specs.Registers.{setup_of, classes_of};
 
 use crate::Register;
+use denial::Denial;
 
 impl Register {
     // w, the number of working entries: with 3 ^ w nodes no call is refused for want of room.
@@ -23,6 +25,17 @@ impl Register {
     pub fn class_count(&self) -> usize
         ensures { result ≡ length (classes_of self.now) }
     {
-        self.count
+        self.classes.len()
+    }
+
+    // Whether the class number was given, which is refused with 9 where it was not.
+    pub(crate) fn given(&self, class: usize) -> Result<(), Denial>
+        ensures given { OnOk result (class ≤ length (classes_of self.now)) }
+        ensures refused { IfErr result (λ d. (length (classes_of self.now) < class) × (d ≡ Denial.Class class)) }
+    {
+        if class > self.class_count() {
+            return Err(Denial::Class(class));
+        }
+        Ok(())
     }
 }

@@ -4,14 +4,10 @@ ghost use Rattle.search.specs.Nodes.{blank};
 ghost use Rattle.runs.specs.Steps.{Call, class, added, compared, placed, placing, step};
 ghost use Rattle.register.specs.Registers.{setup_of, classes_of, reply_of, done};
 
-use crate::Register;
-use crate::searches::{Trial, seed_not, seed_one};
+use crate::searches::{seed_not, seed_one};
+use crate::{MOST, Register};
 use denial::Denial;
-use runs::{Compared, Place};
-use search::{Node, Workspace, wipe};
-
-// The most classes besides class 0.
-const MOST: usize = 24;
+use search::{NoRoom, Node, Workspace, wipe};
 
 impl Register {
     // The class number of the entry: 0 where no world that keeps the book has an individual in it, that of the class from
@@ -26,60 +22,61 @@ impl Register {
             return Err(Denial::Entry(entry));
         }
         wipe(workspace.0);
-        match self.place(entry, workspace.0) {
-            Place::Fits(class) => Ok(class),
-            Place::NoRoom(class) => Err(Denial::Room(class)),
-            Place::New => self.add(entry),
+        match self.place(entry, workspace.0)? {
+            Some(class) => Ok(class),
+            None => self.add(entry),
         }
     }
 
-    // Where the entry belongs: nothing first, and then each class in its turn.
-    fn place(&self, entry: usize, nodes: &mut [Node]) -> Place
+    // The class that the entry belongs to, if there is one: nothing first, and then each class in its turn.
+    #[tactic(auto, using(crate::proofs::Placing::placing_told))]
+    fn place(&self, entry: usize, nodes: &mut [Node]) -> Result<Option<usize>, Denial>
         requires entry { entry < 60 }
         requires blank { nodes.old ≡ replicate (length nodes.old) blank }
         ensures value { result ≡ placing (setup_of self.now) (classes_of self.now) entry (length nodes.old) }
         ensures wiped { nodes.new ≡ replicate (length nodes.old) blank }
     {
-        match self.tried(seed_one(entry), nodes) {
-            Trial::NoRoom => Place::NoRoom(0),
-            Trial::NoWorld => Place::Fits(0),
-            Trial::World => self.among(entry, nodes),
+        let some = self
+            .tried(seed_one(entry), nodes)
+            .map_err(|_| Denial::Room(0))?;
+        if !some {
+            return Ok(Some(0));
         }
+        self.among(entry, nodes)
     }
 
-    // Where the entry belongs among the classes.
-    fn among(&self, entry: usize, nodes: &mut [Node]) -> Place
+    // The same among the classes from 1 on.
+    fn among(&self, entry: usize, nodes: &mut [Node]) -> Result<Option<usize>, Denial>
         requires entry { entry < 60 }
         requires blank { nodes.old ≡ replicate (length nodes.old) blank }
         ensures value { result ≡ placed (setup_of self.now) entry (length nodes.old) (classes_of self.now) 1 }
         ensures wiped { nodes.new ≡ replicate (length nodes.old) blank }
     {
-        'classes: for k in 0..self.count {
-            match self.compare(entry, self.classes[k] as usize, nodes) {
-                Compared::Same => return Place::Fits(k + 1),
-                Compared::Unknown => return Place::NoRoom(k + 1),
-                Compared::Other => {}
+        'classes: for (k, stand) in self.classes.iter().enumerate() {
+            let same = self
+                .compare(entry, *stand as usize, nodes)
+                .map_err(|_| Denial::Room(k + 1))?;
+            if same {
+                return Ok(Some(k + 1));
             }
         }
-        Place::New
+        Ok(None)
     }
 
-    // Whether a world holds the two entries apart: a in and b out, and only if there is none the other way round.
-    fn compare(&self, a: usize, b: usize, nodes: &mut [Node]) -> Compared
-        requires entries { (a < 60) × (b < 60) }
+    // Whether no world holds the two entries apart: none with a in and b out, and then none the other way round.
+    #[tactic(auto, using(crate::proofs::Placing::compared_told))]
+    fn compare(&self, a: usize, b: usize, nodes: &mut [Node]) -> Result<bool, NoRoom>
+        requires a { a < 60 }
+        requires b { b < 60 }
         requires blank { nodes.old ≡ replicate (length nodes.old) blank }
         ensures value { result ≡ compared (setup_of self.now) a b (length nodes.old) }
         ensures wiped { nodes.new ≡ replicate (length nodes.old) blank }
     {
-        match self.tried(seed_not(a, b), nodes) {
-            Trial::NoRoom => Compared::Unknown,
-            Trial::World => Compared::Other,
-            Trial::NoWorld => match self.tried(seed_not(b, a), nodes) {
-                Trial::NoRoom => Compared::Unknown,
-                Trial::World => Compared::Other,
-                Trial::NoWorld => Compared::Same,
-            },
+        if self.tried(seed_not(a, b), nodes)? {
+            return Ok(false);
         }
+        let found = self.tried(seed_not(b, a), nodes)?;
+        Ok(!found)
     }
 
     // The next class, which stands by the entry.
@@ -89,11 +86,9 @@ impl Register {
         ensures classes { classes_of self.new ≡ (added (classes_of self.old) entry).classes }
         ensures setup { setup_of self.new ≡ setup_of self.old }
     {
-        if self.count >= MOST {
-            return Err(Denial::Classes(MOST));
-        }
-        self.classes[self.count] = entry as u8;
-        self.count += 1;
-        Ok(self.count)
+        self.classes
+            .try_push(entry as u8)
+            .map_err(|_| Denial::Classes(MOST))?;
+        Ok(self.classes.len())
     }
 }

@@ -5,6 +5,7 @@
 
 ghost use Rattle.std.specs.Prelude.{◌≡◌, ℕ, ◌+◌, ◌<◌, ◌≤◌, length, slice_index};
 
+use arrayvec::ArrayVec;
 use plan::Plan;
 
 mod ask;
@@ -16,19 +17,20 @@ mod show;
 
 pub use show::{Shown, Side};
 
-// What calls need of the book and the hierarchy, and the classes: class k + 1 stands by the entry `classes[k]`, for each k
-// below the count. Class 0 is nothing.
+// The most classes besides class 0.
+const MOST: usize = 24;
+
+// What calls need of the book and the hierarchy, and the classes: class k + 1 stands by the entry `classes[k]`. Class 0 is
+// nothing.
 #[derive(Drop)]
 pub struct Register {
     plan: Plan,
     entries: usize,
-    classes: [u8; 24],
-    count: usize,
+    classes: ArrayVec<u8, MOST>,
     ghost wide: { entries + 2 ≤ plan.width },
     ghost universal: { 0 < plan.count },
     ghost few_roles: { plan.count ≤ 64 },
     ghost few_entries: { entries ≤ 60 },
-    ghost long: { length classes ≡ 24 },
-    ghost few: { count ≤ 24 },
-    ghost named: { (k : ℕ) → k < count → slice_index classes k < entries },
+    ghost few: { length classes.items ≤ 24 },
+    ghost named: { (k : ℕ) → k < length classes.items → slice_index classes.items k < entries },
 }

@@ -10,6 +10,7 @@ ghost use Rattle.runs.specs.Runs.{Event, Run, Right};
 ghost use Rattle.register.specs.Registers.{setup_of, classes_of, opening};
 
 use crate::Register;
+use arrayvec::ArrayVec;
 use book::Book;
 use denial::Denial;
 use meaning::{Hierarchy, Order};
@@ -29,8 +30,7 @@ impl Register {
         Ok(Register {
             plan,
             entries: book.entry_count(),
-            classes: [0; 24],
-            count: 0,
+            classes: ArrayVec::new(),
         })
     }
 }

@@ -1,39 +1,33 @@
 // The searches of a register, from the seeds of its questions.
 ghost use Rattle.std.specs.Prelude.{◌≡◌, ◌<◌, ◌≤◌, length, replicate};
 ghost use Rattle.tableau.specs.Working.{seed_of_not, seed_of_one};
+ghost use Rattle.search.specs.Games.{told};
 ghost use Rattle.search.specs.Nodes.{blank};
 ghost use Rattle.plan.specs.Meanings.{table_in};
 ghost use Rattle.runs.specs.Setups.{root_in, search_in};
-ghost use Rattle.register.specs.Registers.{trial_of, setup_of};
+ghost use Rattle.register.specs.Registers.{setup_of};
 
 use crate::Register;
 use plan::Plan;
-use search::Node;
-use successor::put;
+use search::{NoRoom, Node};
 use tableau::Label;
 
-// What a search comes to: a world, none, or no room to tell.
-#[derive(Clone, Copy)]
-pub(crate) enum Trial {
-    World,
-    NoWorld,
-    NoRoom,
-}
-
 // The seed of "a": + a.
+#[tactic(auto, unfolding(tableau::specs::Labels::empty))]
 pub(crate) fn seed_one(a: usize) -> Label
     requires { a < 64 }
     ensures { result ≡ seed_of_one a }
 {
-    put(Label { plus: 0, minus: 0 }, true, a)
+    Label::EMPTY.with(true, a)
 }
 
 // The seed of "a not b": + a, and - b.
 pub(crate) fn seed_not(a: usize, b: usize) -> Label
-    requires { (a < 64) × (b < 64) }
+    requires a { a < 64 }
+    requires b { b < 64 }
     ensures { result ≡ seed_of_not a b }
 {
-    put(seed_one(a), false, b)
+    seed_one(a).with(false, b)
 }
 
 // The seed with + book and + everywhere, which are the last two working entries.
@@ -41,19 +35,16 @@ pub(crate) fn rooted(plan: &Plan, seed: Label) -> Label
     requires { 2 ≤ plan.now.width }
     ensures { result ≡ root_in (table_in plan.now) seed }
 {
-    put(put(seed, true, plan.width - 2), true, plan.width - 1)
+    seed.with(true, plan.width - 2).with(true, plan.width - 1)
 }
 
 impl Register {
     // Whether a world that keeps the book has an individual that satisfies the seed.
-    pub(crate) fn tried(&self, seed: Label, nodes: &mut [Node]) -> Trial
+    pub(crate) fn tried(&self, seed: Label, nodes: &mut [Node]) -> Result<bool, NoRoom>
         requires { nodes.old ≡ replicate (length nodes.old) blank }
-        ensures answer { result ≡ trial_of (search_in (setup_of self.now) seed (length nodes.old)) }
+        ensures answer { result ≡ told (search_in (setup_of self.now) seed (length nodes.old)) }
         ensures wiped { nodes.new ≡ replicate (length nodes.old) blank }
     {
-        match model::tried(&self.plan, nodes, rooted(&self.plan, seed)) {
-            None => Trial::NoRoom,
-            Some(found) => { if found { Trial::World } else { Trial::NoWorld } }
-        }
+        model::tried(&self.plan, nodes, rooted(&self.plan, seed))
     }
 }

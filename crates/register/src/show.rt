@@ -1,17 +1,17 @@
 // Showing: a world that holds two classes apart.
-ghost use Rattle.std.specs.Prelude.{◌≡◌, ◌-◌, ◌<◌, ◌≤◌, length, replicate};
+ghost use Rattle.std.specs.Prelude.{◌≡◌, ◌-◌, ◌<◌, ◌≤◌, length, replicate, IfOk, IfSome};
 ghost use Rattle.search.specs.Nodes.{blank, labels, Says};
 ghost use Rattle.runs.specs.Setups.{apart};
 ghost use Rattle.runs.specs.Steps.{Call, showed_world, showing, step};
 ghost use Rattle.register.specs.Registers.{setup_of, classes_of, reply_of, done};
-ghost use Rattle.register.specs.Showing.{side_number, shown_reply, seed_of_apart, SomeNode};
+ghost use Rattle.register.specs.Showing.{side_number, shown_reply, seed_of_apart};
 
 use crate::Register;
 use crate::searches::{rooted, seed_not, seed_one};
 use denial::Denial;
 use drawing::draw;
 use found::Found;
-use search::{Answer, Node, Workspace, wipe};
+use search::{NoRoom, Node, Workspace, wipe};
 use tableau::Label;
 
 // The class that individual 0 of a world that was shown is of: the first of the two asked for, and not the second, or the
@@ -44,12 +44,8 @@ impl Register {
         ensures { done (reply_of shown_reply result) self.now nodes.new sheet.new ≡ step (setup_of self.now) (classes_of self.now) (Call.show a b (length nodes.old) sheet.old) }
     {
         let workspace = Workspace(nodes);
-        if a > self.count {
-            return Err(Denial::Class(a));
-        }
-        if b > self.count {
-            return Err(Denial::Class(b));
-        }
+        self.given(a)?;
+        self.given(b)?;
         if a == b {
             return Err(Denial::Equal(a));
         }
@@ -65,31 +61,31 @@ impl Register {
         nodes: &mut [Node],
         sheet: &mut [u64],
     ) -> Result<Shown, Denial>
-        requires given { (a ≤ self.now.count) × (b ≤ self.now.count) }
+        requires a { a ≤ length (classes_of self.now) }
+        requires b { b ≤ length (classes_of self.now) }
         requires blank { nodes.old ≡ replicate (length nodes.old) blank }
         ensures reply { reply_of shown_reply result ≡ (showing (setup_of self.now) (classes_of self.now) a b (length nodes.old) sheet.old).reply }
         ensures sheet { sheet.new ≡ (showing (setup_of self.now) (classes_of self.now) a b (length nodes.old) sheet.old).sheet }
     {
-        match self.apart(a, b, nodes) {
-            Answer::Stands(m) => self.put_on(&nodes[0..m], Side::First, sheet),
-            Answer::Full => Err(Denial::Room(a)),
-            Answer::Failed => match self.apart(b, a, nodes) {
-                Answer::Stands(m) => self.put_on(&nodes[0..m], Side::Second, sheet),
-                Answer::Full => Err(Denial::Room(a)),
-                Answer::Failed => Err(Denial::Equal(a)),
-            },
+        if let Some(m) = self.apart(a, b, nodes).map_err(|_| Denial::Room(a))? {
+            return self.put_on(&nodes[..m], Side::First, sheet);
+        }
+        match self.apart(b, a, nodes).map_err(|_| Denial::Room(a))? {
+            Some(m) => self.put_on(&nodes[..m], Side::Second, sheet),
+            None => Err(Denial::Equal(a)),
         }
     }
 
     // The search for an individual of class a that is not of class b. Class 0 has none, and needs no search.
-    fn apart(&self, a: usize, b: usize, nodes: &mut [Node]) -> Answer
-        requires given { (a ≤ self.now.count) × (b ≤ self.now.count) }
+    fn apart(&self, a: usize, b: usize, nodes: &mut [Node]) -> Result<Option<usize>, NoRoom>
+        requires a { a ≤ length (classes_of self.now) }
+        requires b { b ≤ length (classes_of self.now) }
         requires blank { nodes.old ≡ replicate (length nodes.old) blank }
         ensures says { Says nodes.new result (apart (setup_of self.now) (classes_of self.now) a b (length nodes.old)) }
-        ensures some { SomeNode result }
+        ensures some { IfOk result (λ found. IfSome found (λ m. 0 < m)) }
     {
         if a == 0 {
-            return Answer::Failed;
+            return Ok(None);
         }
         let seed = self.seed_apart(a, b);
         model::find_in_blank(&self.plan, nodes, rooted(&self.plan, seed))
@@ -97,8 +93,10 @@ impl Register {
 
     // The seed of "a not b"; where b is 0, of "a" alone.
     fn seed_apart(&self, a: usize, b: usize) -> Label
-        requires { (0 < a) × ((a ≤ self.now.count) × (b ≤ self.now.count)) }
-        ensures { result ≡ seed_of_apart self.now.classes a b }
+        requires some { 0 < a }
+        requires a { a ≤ length (classes_of self.now) }
+        requires b { b ≤ length (classes_of self.now) }
+        ensures { result ≡ seed_of_apart (classes_of self.now) a b }
     {
         let first = self.classes[a - 1] as usize;
         if b == 0 {
@@ -114,7 +112,7 @@ impl Register {
         ensures sheet { sheet.new ≡ (showed_world (setup_of self.now) sheet.old (side_number side) (labels nodes.now)).sheet }
     {
         let world = Found::new(&self.plan, nodes)?;
-        let individuals = draw(&world, (self.plan.count - 1) as u8, sheet)?;
+        let individuals = draw(&world, self.role_count() as u8, sheet)?;
         Ok(Shown { individuals, side })
     }
 }

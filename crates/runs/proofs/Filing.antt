@@ -1,18 +1,16 @@
 -- What a filing comes to, and what it keeps true of the classes.
-use Rattle.std.proofs.Common.{◌≡◌, ℕ, zero, suc, ◌+◌, ◌^◌, ◌<◌, ◌≤◌, Bool, true, false, not, ltb, ◌⊎◌, List, [], ◌∷◌, ◌++◌, length, get_or, sym, refl, ◌∙◌, subst, inl, inr, ⊎_elim, arith, length-append}
+use Rattle.std.proofs.Common.{◌≡◌, ℕ, zero, suc, ◌+◌, ◌^◌, ◌<◌, ◌≤◌, Bool, true, false, not, ltb, ◌⊎◌, List, [], ◌∷◌, ◌++◌, length, get_or, Some, None, Option, Ok, Err, Result, sym, refl, ◌∙◌, subst, inl, inr, ⊎_elim, arith, length-append}
 use lib.Seq.{get_or-append_seam}
 use Rattle.std.proofs.lemmas.List.{get_or_append_left}
 use Rattle.std.proofs.lemmas.Bool.{cases_lt, cond_both, ltb-true}
+use Rattle.denial.specs.declared.Denial.{Denial}
 use Rattle.denial.specs.declared.Report.{Report}
 use Rattle.meaning.specs.Orders.{RoleBox}
 use Rattle.meaning.specs.Books.{Book}
 use Rattle.tableau.specs.Search.{Outcome, failed, full, stands}
 use Rattle.tableau.specs.Working.{width_of, seed_of_not, seed_of_one}
 use Rattle.tableau.specs.Promises.{Opens}
-use Rattle.runs.specs.declared.Compared.{Compared}
-use Rattle.runs.specs.declared.Compared.TheVariants.{Same, Other, Unknown}
-use Rattle.runs.specs.declared.Place.{Place}
-use Rattle.runs.specs.declared.Place.TheVariants.{Fits, New, NoRoom}
+use Rattle.search.specs.declared.NoRoom.{NoRoom}
 use Rattle.runs.specs.Setups.{setup, search_in}
 use Rattle.runs.specs.Steps.{Reply, class, said, shown, refused, refusal, most, by_second_outcome, by_first_outcome, compared, placed_by, placed, filed, filed_at, placed_first, placing, or_next, file_step}
 use Rattle.runs.specs.Runs.{Separated, Inseparable}
@@ -67,10 +65,10 @@ FileRight H K cs e n (refused r) ds = (ds ≡ cs) × RefusedRight H K n r
 
 module _ (H : RoleBox) (K : Book) (P : Opens H K) (e n : ℕ) (entry : e < K.entries) where
   -- what comparing the entry with c says
-  abbrev pub ComparedRight : ℕ → Compared → Type 0
-  ComparedRight c Same = Inseparable H K e c
-  ComparedRight c Other = Inseparable H K e c → ⊥
-  ComparedRight c Unknown = 3 ^ width_of H K ≤ n → ⊥
+  abbrev pub ComparedRight : ℕ → Result Bool NoRoom → Type 0
+  ComparedRight c (Ok true) = Inseparable H K e c
+  ComparedRight c (Ok false) = Inseparable H K e c → ⊥
+  ComparedRight c (Err x) = 3 ^ width_of H K ≤ n → ⊥
 
   compared_right : (c : ℕ) → c < K.entries → ComparedRight c (compared (setup H K) e c n)
   unfolding compared
@@ -87,20 +85,20 @@ module _ (H : RoleBox) (K : Book) (P : Opens H K) (e n : ℕ) (entry : e < K.ent
       first (stands ls) f = λ i. i.0 (not_separated H K P e c n entry m ls f)
 
   -- what going through the classes ds, the first of them being number k, says
-  abbrev pub PlaceRight : List ℕ → ℕ → Place → Type 0
-  PlaceRight ds k (Fits j) = (i : ℕ) × (i < length ds) × (j ≡ k + i) × Inseparable H K e (get_or ds i 0)
-  PlaceRight ds k New = (i : ℕ) → i < length ds → Inseparable H K e (get_or ds i 0) → ⊥
-  PlaceRight ds k (NoRoom j) = 3 ^ width_of H K ≤ n → ⊥
+  abbrev pub PlaceRight : List ℕ → ℕ → Result (Option ℕ) Denial → Type 0
+  PlaceRight ds k (Ok (Some j)) = (i : ℕ) × (i < length ds) × (j ≡ k + i) × Inseparable H K e (get_or ds i 0)
+  PlaceRight ds k (Ok None) = (i : ℕ) → i < length ds → Inseparable H K e (get_or ds i 0) → ⊥
+  PlaceRight ds k (Err d) = 3 ^ width_of H K ≤ n → ⊥
 
   -- the entry is not inseparable from c, and the rest says so
-  place_shift : (c : ℕ) (ds : List ℕ) (k : ℕ) (o : Place) → (Inseparable H K e c → ⊥) → PlaceRight ds (suc k) o → PlaceRight (c ∷ ds) k o
-  place_shift c ds k (Fits j) r h = (suc h.0, omega (arith, h.1), omega (arith, h.2), h.3)
-  place_shift c ds k New r h = each
+  place_shift : (c : ℕ) (ds : List ℕ) (k : ℕ) (o : Result (Option ℕ) Denial) → (Inseparable H K e c → ⊥) → PlaceRight ds (suc k) o → PlaceRight (c ∷ ds) k o
+  place_shift c ds k (Ok (Some j)) r h = (suc h.0, omega (arith, h.1), omega (arith, h.2), h.3)
+  place_shift c ds k (Ok None) r h = each
     where
       each : (i : ℕ) → i < length (c ∷ ds) → Inseparable H K e (get_or (c ∷ ds) i 0) → ⊥
       each zero l s = r s
       each (suc i) l s = h i (omega arith) s
-  place_shift c ds k (NoRoom j) r h = h
+  place_shift c ds k (Err d) r h = h
 
   placed_right : (ds : List ℕ) → ((i : ℕ) → i < length ds → get_or ds i 0 < K.entries) → (k : ℕ) → PlaceRight ds k (placed (setup H K) e n ds k)
   unfolding placed
@@ -108,11 +106,11 @@ module _ (H : RoleBox) (K : Book) (P : Opens H K) (e n : ℕ) (entry : e < K.ent
   placed_right (c ∷ ds) named k =
       go (compared (setup H K) e c n) (compared_right c (named 0 (omega arith))) (placed_right ds (λ i l. named (suc i) (omega arith)) (suc k))
     where
-      go : (o : Compared) → ComparedRight c o → PlaceRight ds (suc k) (placed (setup H K) e n ds (suc k))
+      go : (o : Result Bool NoRoom) → ComparedRight c o → PlaceRight ds (suc k) (placed (setup H K) e n ds (suc k))
           → PlaceRight (c ∷ ds) k (placed_by o k (λ u. placed (setup H K) e n ds (suc k)))
-      go Same r h = (0, omega arith, omega arith, r)
-      go Other r h = place_shift c ds k (placed (setup H K) e n ds (suc k)) r h
-      go Unknown r h = r
+      go (Ok true) r h = (0, omega arith, omega arith, r)
+      go (Ok false) r h = place_shift c ds k (placed (setup H K) e n ds (suc k)) r h
+      go (Err x) r h = r
 
   module _ (cs : List ℕ) (kept : Kept H K cs) where
     last : get_or (cs ++ e ∷ []) (length cs) 0 ≡ e
@@ -146,13 +144,13 @@ module _ (H : RoleBox) (K : Book) (P : Opens H K) (e n : ℕ) (entry : e < K.ent
     }
 
     -- the entry, of which there is an individual, at its place
-    at_right : Inhabited H K e → (o : Place) → PlaceRight cs 1 o → FileRight H K cs e n (filed_at cs e o).reply (filed_at cs e o).classes
-    at_right some (Fits j) h = record {
+    at_right : Inhabited H K e → (o : Result (Option ℕ) Denial) → PlaceRight cs 1 o → FileRight H K cs e n (filed_at cs e o).reply (filed_at cs e o).classes
+    at_right some (Ok (Some j)) h = record {
       belongs = inr (h.0, omega (arith, h.2), h.1, h.3);
       kept = kept;
       grown = inl (refl, omega (arith, h.1, h.2));
     }
-    at_right some New h =
+    at_right some (Ok None) h =
         cond_both (ltb (length cs) most) (filed (class (length cs + 1)) (cs ++ e ∷ [])) (filed (refusal 14 most) cs)
         (λ f. FileRight H K cs e n f.reply f.classes)
         (λ t. record {
@@ -164,7 +162,7 @@ module _ (H : RoleBox) (K : Book) (P : Opens H K) (e n : ℕ) (entry : e < K.ent
       where
         self : Separated H K e e → ⊥
         self s = let z : true ≡ false = sym s.inside ∙ s.outside in let y : ◌≡◌ {A = ℕ} 0 1 = cc in omega arith
-    at_right some (NoRoom j) h = (refl, record { room = λ x r. h r })
+    at_right some (Err d) h = (refl, record { room = λ x r. h r })
 
     pub filing_right : FileRight H K cs e n (filed_at cs e (placing (setup H K) cs e n)).reply (filed_at cs e (placing (setup H K) cs e n)).classes
     unfolding placing

@@ -1,12 +1,11 @@
 -- A call that is refused leaves the classes and the lent words as they were.
-use Rattle.std.proofs.Common.{◌≡◌, ℕ, ◌+◌, not, eqb, ltb, leb, List, [], ◌∷◌, ◌++◌, length, refl, arith}
+use Rattle.std.proofs.Common.{◌≡◌, ℕ, ◌+◌, not, eqb, ltb, leb, List, [], ◌∷◌, ◌++◌, length, Some, None, Option, Ok, Err, Result, refl, arith}
 use Rattle.std.proofs.lemmas.Bool.{cond_both}
+use Rattle.denial.specs.declared.Denial.{Denial}
 use Rattle.denial.specs.declared.Report.{Report}
 use Rattle.tableau.specs.declared.Label.{Label}
 use Rattle.tableau.specs.Search.{Outcome, failed, full, stands}
 use Rattle.sheet.specs.Sheets.{needed}
-use Rattle.runs.specs.declared.Place.{Place}
-use Rattle.runs.specs.declared.Place.TheVariants.{Fits, New, NoRoom}
 use Rattle.runs.specs.Setups.{Setup, apart}
 use Rattle.runs.specs.Steps.{file, ask, show, class, refused, refusal, most, Filed, filed, filed_at, placing, Showed, showed_world, showed_second, showed_first, showing, file_step, show_step, given}
 use Rattle.runs.specs.Runs.{RefusalsChangeNothing}
@@ -24,12 +23,12 @@ Unshown words s = (r : Report) → s.reply ≡ refused r → s.sheet ≡ words
 unlike : {A : Type 0} (p : ℕ) (r : Report) → class p ≡ refused r → A
 unlike p r e = absurd (let z : ◌≡◌ {A = ℕ} 0 1 = cc in omega arith)
 
-unfiled_at : (cs : List ℕ) (e : ℕ) (o : Place) → Unfiled cs (filed_at cs e o)
-unfiled_at cs e (Fits k) = λ r x. refl
-unfiled_at cs e New =
+unfiled_at : (cs : List ℕ) (e : ℕ) (o : Result (Option ℕ) Denial) → Unfiled cs (filed_at cs e o)
+unfiled_at cs e (Ok (Some k)) = λ r x. refl
+unfiled_at cs e (Ok None) =
     cond_both (ltb (length cs) most) (filed (class (length cs + 1)) (cs ++ e ∷ [])) (filed (refusal 14 most) cs) (Unfiled cs)
     (λ t r x. unlike (length cs + 1) r x) (λ t r x. refl)
-unfiled_at cs e (NoRoom k) = λ r x. refl
+unfiled_at cs e (Err d) = λ r x. refl
 
 unfiled : (S : Setup) (cs : List ℕ) (e n : ℕ) → Unfiled cs (file_step S cs e n)
 unfiled S cs e n =

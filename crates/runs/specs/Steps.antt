@@ -1,19 +1,18 @@
 -- What each call of a register comes to: the reply, the classes afterwards, the lent nodes and the lent words afterwards.
-use Rattle.std.specs.Prelude.{ℕ, zero, suc, ◌+◌, Bool, true, false, cond, not, List, [], ◌∷◌, ◌++◌, length, replicate, ◌==◌, nat_le, nat_lt}
-use Rattle.denial.specs.Denials.{reported}
+use Rattle.std.specs.Prelude.{ℕ, zero, suc, ◌+◌, Bool, true, false, cond, not, List, [], ◌∷◌, ◌++◌, length, replicate, Some, None, Option, Ok, Err, Result, ◌==◌, nat_le, nat_lt}
+use Rattle.denial.specs.Denials.{reported, denial_report}
+use Rattle.denial.specs.declared.Denial.{Denial}
+use Rattle.denial.specs.declared.Denial.TheVariants.{Room}
 use Rattle.denial.specs.declared.Report.{Report}
 use Rattle.denial.specs.declared.Layer.TheVariants.{Register}
 use Rattle.tableau.specs.declared.Label.{Label}
 use Rattle.tableau.specs.Search.{Outcome, failed, full, stands}
 use Rattle.tableau.specs.Working.{seed_of_not, seed_of_one}
+use Rattle.search.specs.declared.NoRoom.{NoRoom}
 use Rattle.search.specs.declared.Node.{Node}
 use Rattle.search.specs.Nodes.{blank}
 use Rattle.sheet.specs.Sheets.{needed}
 use Rattle.drawing.specs.Drawings.{drawn_on}
-use Rattle.runs.specs.declared.Compared.{Compared}
-use Rattle.runs.specs.declared.Compared.TheVariants.{Same, Other, Unknown}
-use Rattle.runs.specs.declared.Place.{Place}
-use Rattle.runs.specs.declared.Place.TheVariants.{Fits, New, NoRoom}
 use Rattle.runs.specs.Setups.{Setup, search_in, world_in, apart}
 
 -- a call, with how many nodes and, for show, which words it was lent
@@ -45,39 +44,40 @@ abbrev pub most : ℕ
 most = 24
 
 -- "class not entry"
-abbrev pub by_second_outcome : Outcome → Compared
-by_second_outcome failed = Same
-by_second_outcome full = Unknown
-by_second_outcome (stands ls) = Other
+abbrev pub by_second_outcome : Outcome → Result Bool NoRoom
+by_second_outcome failed = Ok true
+by_second_outcome full = Err (record {})
+by_second_outcome (stands ls) = Ok false
 
 -- "entry not class", and only if that has no world "class not entry"
-abbrev pub by_first_outcome : Outcome → (Unit {0} → Compared) → Compared
+abbrev pub by_first_outcome : Outcome → (Unit {0} → Result Bool NoRoom) → Result Bool NoRoom
 by_first_outcome failed second = second tt
-by_first_outcome full second = Unknown
-by_first_outcome (stands ls) second = Other
+by_first_outcome full second = Err (record {})
+by_first_outcome (stands ls) second = Ok false
 
--- the entry against the class
-unfoldable pub compared : Setup → ℕ → ℕ → ℕ → Compared
+-- is the entry one with the class, so that no world holds it apart from the entry by which the class stands?
+unfoldable pub compared : Setup → ℕ → ℕ → ℕ → Result Bool NoRoom
 compared S entry c n = by_first_outcome (search_in S (seed_of_not entry c) n) (λ u. by_second_outcome (search_in S (seed_of_not c entry) n))
 
-abbrev pub placed_by : Compared → ℕ → (Unit {0} → Place) → Place
-placed_by Same k next = Fits k
-placed_by Other k next = next tt
-placed_by Unknown k next = NoRoom k
+-- class k where the entry is one with it, else what comes next; without room the class is named
+abbrev pub placed_by : Result Bool NoRoom → ℕ → (Unit {0} → Result (Option ℕ) Denial) → Result (Option ℕ) Denial
+placed_by (Ok true) k next = Ok (Some k)
+placed_by (Ok false) k next = next tt
+placed_by (Err e) k next = Err (Room k)
 
 -- the classes in turn, the first of those that are left being number k
-unfoldable pub placed : Setup → ℕ → ℕ → List ℕ → ℕ → Place
-placed S entry n [] k = New
+unfoldable pub placed : Setup → ℕ → ℕ → List ℕ → ℕ → Result (Option ℕ) Denial
+placed S entry n [] k = Ok None
 placed S entry n (c ∷ cs) k = placed_by (compared S entry c n) k (λ u. placed S entry n cs (suc k))
 
 -- "entry not 0" first: no world gives class 0
-abbrev pub placed_first : Outcome → (Unit {0} → Place) → Place
-placed_first failed next = Fits 0
-placed_first full next = NoRoom 0
+abbrev pub placed_first : Outcome → (Unit {0} → Result (Option ℕ) Denial) → Result (Option ℕ) Denial
+placed_first failed next = Ok (Some 0)
+placed_first full next = Err (Room 0)
 placed_first (stands ls) next = next tt
 
--- where an entry belongs
-unfoldable pub placing : Setup → List ℕ → ℕ → ℕ → Place
+-- where an entry belongs: to a class that there is, to none of them, or there was no room to tell
+unfoldable pub placing : Setup → List ℕ → ℕ → ℕ → Result (Option ℕ) Denial
 placing S cs entry n = placed_first (search_in S (seed_of_one entry) n) (λ u. placed S entry n cs 1)
 
 -- a reply, with the classes that stand then
@@ -92,10 +92,10 @@ filed r cs = record { reply = r; classes = cs }
 abbrev pub added : List ℕ → ℕ → Filed
 added cs entry = cond (nat_lt (length cs) most) (filed (class (length cs + 1)) (cs ++ entry ∷ [])) (filed (refusal 14 most) cs)
 
-abbrev pub filed_at : List ℕ → ℕ → Place → Filed
-filed_at cs entry (Fits k) = filed (class k) cs
-filed_at cs entry New = added cs entry
-filed_at cs entry (NoRoom k) = filed (refusal 15 k) cs
+abbrev pub filed_at : List ℕ → ℕ → Result (Option ℕ) Denial → Filed
+filed_at cs entry (Ok (Some k)) = filed (class k) cs
+filed_at cs entry (Ok None) = added cs entry
+filed_at cs entry (Err d) = filed (refused (denial_report d)) cs
 
 -- a class number that was given: 0, or one for each entry of the list
 abbrev pub given : List ℕ → ℕ → Bool

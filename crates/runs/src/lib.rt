@@ -1,25 +1,9 @@
-// The register as a value, and the theorem over all its runs. There is no code here beyond the types that the definitions
-// share with the code of the register, and the functions that carry the theorems.
+// The register as a value, and the theorem over all its runs. There is no code here beyond the functions that carry the
+// theorems.
 #![tactic(auto)]
 
 ghost use Rattle.runs.specs.Examples.{RegisterExamples};
 ghost use Rattle.runs.specs.Runs.{RunsByCalls, EveryRunIsRight, RefusalsChangeNothing};
-
-// How an entry compares with the one by which a class stands: no world holds them apart, a world does, or there is no room.
-#[derive(Clone, Copy)]
-pub enum Compared {
-    Same,
-    Other,
-    Unknown,
-}
-
-// Where an entry belongs: to a class, to none that stands, or there was no room to compare it with a class.
-#[derive(Clone, Copy)]
-pub enum Place {
-    Fits(usize),
-    New,
-    NoRoom(usize),
-}
 
 // What class numbers, answers and shown worlds mean, in every run.
 pub fn every_run_is_right() -> u8

@@ -1,4 +1,3 @@
-use Rattle.std.proofs.Common.{refl}
 use Rattle.meaning.specs.Orders.{role_box}
 use Rattle.book.specs.Sections.{says}
 use Rattle.book.specs.Views.{view}
@@ -15,6 +14,6 @@ returns g c =
     record {
       answer = e.answer;
       setup = setup_same H K p c.entry_count.result e.planned e.fitting c.entry_count.ensures;
-      fresh = refl;
-      right = right_from H K p c.entry_count.result e.planned e.fitting c.entry_count.ensures;
+      fresh = c.new-2.ensures;
+      right = right_from H K p c.entry_count.result _ e.planned e.fitting c.entry_count.ensures c.new-2.ensures;
     }

@@ -28,7 +28,7 @@ returns-in_err-individuals c =
     let d = c.in_err-individuals.ensures in
     let s = too_short g.plan g.entries c.args.nodes.now (side_number c.args.side) c.args.sheet.now
     (kept_world w.nodes.now w.roles w.names w.rows) (kept_sized w.nodes.now w.roles w.names w.rows) made.world
-    (found_granted c.args.nodes.now w.nodes.now made.value) (denial_report c.in_err-individuals.field-0.0) c.draw.new.words d.value d.words in
+    (found_granted c.args.nodes.now w.nodes.now made.value) (denial_report c.in_err-individuals.field-0.0) c.draw.new.words (simp c.role_count.ensures at d.value) (simp c.role_count.ensures at d.words) in
     record {
       reply = ap (reply_of shown_reply) p.1 ∙ ap (λ d. refused (denial_report d)) p.2 ∙ s.reply;
       sheet = s.sheet_is;
@@ -42,5 +42,5 @@ returns c =
     let d = c.in_ok-individuals.ensures in
     let s = written_down g.plan g.entries c.args.nodes.now (side_number c.args.side) c.args.sheet.now
     (kept_world w.nodes.now w.roles w.names w.rows) (kept_sized w.nodes.now w.roles w.names w.rows) made.world
-    (found_granted c.args.nodes.now w.nodes.now made.value) c.in_ok-individuals.individuals c.draw.new.words d.value d.words in
+    (found_granted c.args.nodes.now w.nodes.now made.value) c.in_ok-individuals.individuals c.draw.new.words (simp c.role_count.ensures at d.value) (simp c.role_count.ensures at d.words) in
     record { reply = s.reply; sheet = s.sheet_is }
