@@ -24,6 +24,7 @@ pub fn denied(heap: Global, report: Report) -> Result<String, AllocError>
 
 // The lines of a listing have numbers of two decimal digits. They are the last two: entries are below 60, class numbers at
 // most 24 and the numbers of refusals at most 17, so nothing is lost.
+#[tactic(auto, unfolding(crate::specs::Listings::both_digits))]
 fn two_digits(n: u8) -> [u8; 2]
     ensures { result ≡ both_digits n }
 {
@@ -32,6 +33,7 @@ fn two_digits(n: u8) -> [u8; 2]
 }
 
 // The line of an entry that has a class number.
+#[tactic(auto, unfolding(crate::specs::Listings::line_of_class, crate::specs::Listings::both_digits))]
 pub fn class_line(entry: u8, class: u8) -> [u8; 12]
     ensures { result ≡ line_of_class entry class }
 {
@@ -42,6 +44,7 @@ pub fn class_line(entry: u8, class: u8) -> [u8; 12]
 }
 
 // The line of an entry whose filing was refused with the number.
+#[tactic(auto, unfolding(crate::specs::Listings::line_of_denied_entry, crate::specs::Listings::both_digits))]
 pub fn denied_line(entry: u8, number: u8) -> [u8; 13]
     ensures { result ≡ line_of_denied_entry entry number }
 {
@@ -52,6 +55,7 @@ pub fn denied_line(entry: u8, number: u8) -> [u8; 13]
 }
 
 // The line of a book that is refused with the number.
+#[tactic(auto, unfolding(crate::specs::Listings::line_of_book, crate::specs::Listings::both_digits))]
 pub fn book_line(number: u8) -> [u8; 8]
     ensures { result ≡ line_of_book number }
 {
