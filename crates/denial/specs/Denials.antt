@@ -1,5 +1,5 @@
 -- The number, the detail and the layer of every refusal.
-use Rattle.std.specs.Prelude.{ℕ, Ok, Err, Result}
+use Rattle.std.specs.Prelude.{ℕ, List, ◌++◌, codes, decimal, Ok, Err, Result}
 use Rattle.denial.specs.declared.Layer.{Layer}
 use Rattle.denial.specs.declared.Layer.TheVariants.{Trailer, Records, Register}
 use Rattle.denial.specs.declared.Report.{Report}
@@ -44,6 +44,16 @@ from_trailer lower = Layout lower
 
 abbrev pub from_record : RecordDenial → Denial
 from_record lower = Unread lower
+
+-- how a layer is shown
+abbrev pub name_of_layer : Layer → List ℕ
+name_of_layer Trailer = codes "trailer"
+name_of_layer Records = codes "records"
+name_of_layer Register = codes "register"
+
+-- how a report is shown: "denied", its number, its detail and its layer
+abbrev pub text_of_report : Report → List ℕ
+text_of_report r = codes "denied " ++ (decimal r.number ++ (codes " " ++ (decimal r.detail ++ (codes " " ++ name_of_layer r.layer))))
 
 -- what a call that can refuse comes to: a value, or a refusal with its report
 pub data Answer (A : Type 0) : Type 0 where

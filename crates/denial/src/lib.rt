@@ -2,8 +2,11 @@
 // (number, detail, layer) that a definition gives to each case.
 #![tactic(auto)]
 
-ghost use Rattle.std.specs.Prelude.{◌≡◌};
-ghost use Rattle.denial.specs.Denials.{trailer_report, record_report, denial_report, from_trailer, from_record};
+ghost use Rattle.std.specs.Prelude.{◌≡◌, Some};
+ghost use Rattle.denial.specs.Denials.{trailer_report, record_report, denial_report, from_trailer, from_record, name_of_layer, text_of_report};
+
+use std::error::Error;
+use std::fmt;
 
 // Where a refusal arose: in the trailer of the book, in its records, or in the register and the calls around it.
 #[derive(Clone, Copy, PartialEq, Eq, Debug)]
@@ -22,7 +25,7 @@ pub struct Report {
 }
 
 // The book's length or its trailer is wrong.
-#[derive(Clone, Copy)]
+#[derive(Clone, Copy, PartialEq, Eq, Debug)]
 pub enum TrailerDenial {
     // the length, which is not 16 to 8192
     Length(usize),
@@ -33,7 +36,7 @@ pub enum TrailerDenial {
 }
 
 // A record of a section is wrong; each case has the first byte of the first bad record.
-#[derive(Clone, Copy)]
+#[derive(Clone, Copy, PartialEq, Eq, Debug)]
 pub enum RecordDenial {
     Layout(TrailerDenial),
     Role(usize),
@@ -43,7 +46,7 @@ pub enum RecordDenial {
 }
 
 // A call on a book that was read is refused.
-#[derive(Clone, Copy)]
+#[derive(Clone, Copy, PartialEq, Eq, Debug)]
 pub enum Denial {
     Unread(RecordDenial),
     // the entry, which is not in the book
@@ -72,24 +75,7 @@ impl TrailerDenial {
     pub fn report(self) -> Report
         ensures { result ≡ trailer_report self }
     {
-        let layer = Layer::Trailer;
-        match self {
-            TrailerDenial::Length(detail) => Report {
-                number: 1,
-                detail,
-                layer,
-            },
-            TrailerDenial::Count(detail) => Report {
-                number: 2,
-                detail,
-                layer,
-            },
-            TrailerDenial::Place(detail) => Report {
-                number: 3,
-                detail,
-                layer,
-            },
-        }
+        self.into()
     }
 }
 
@@ -97,30 +83,7 @@ impl RecordDenial {
     pub fn report(self) -> Report
         ensures { result ≡ record_report self }
     {
-        let layer = Layer::Records;
-        match self {
-            RecordDenial::Layout(lower) => lower.report(),
-            RecordDenial::Role(detail) => Report {
-                number: 4,
-                detail,
-                layer,
-            },
-            RecordDenial::Pair(detail) => Report {
-                number: 5,
-                detail,
-                layer,
-            },
-            RecordDenial::Concept(detail) => Report {
-                number: 6,
-                detail,
-                layer,
-            },
-            RecordDenial::Rule(detail) => Report {
-                number: 7,
-                detail,
-                layer,
-            },
-        }
+        self.into()
     }
 }
 
@@ -128,59 +91,67 @@ impl Denial {
     pub fn report(self) -> Report
         ensures { result ≡ denial_report self }
     {
-        let layer = Layer::Register;
-        match self {
-            Denial::Unread(lower) => lower.report(),
-            Denial::Entry(detail) => Report {
-                number: 8,
-                detail,
-                layer,
-            },
-            Denial::Class(detail) => Report {
-                number: 9,
-                detail,
-                layer,
-            },
-            Denial::Sheet(detail) => Report {
-                number: 10,
-                detail,
-                layer,
-            },
-            Denial::ShortSheet(detail) => Report {
-                number: 11,
-                detail,
-                layer,
-            },
-            Denial::RoleCount(detail) => Report {
-                number: 12,
-                detail,
-                layer,
-            },
-            Denial::Width(detail) => Report {
-                number: 13,
-                detail,
-                layer,
-            },
-            Denial::Classes(detail) => Report {
-                number: 14,
-                detail,
-                layer,
-            },
-            Denial::Room(detail) => Report {
-                number: 15,
-                detail,
-                layer,
-            },
-            Denial::Equal(detail) => Report {
-                number: 16,
-                detail,
-                layer,
-            },
-            Denial::Individuals(detail) => Report {
-                number: 17,
-                detail,
-                layer,
-            },
+        self.into()
+    }
+}
+
+impl From<TrailerDenial> for Report {
+    ghost from_gives = { λ d r. r ≡ trailer_report d };
+
+    fn from(denial: TrailerDenial) -> Report {
+        let (number, detail) = match denial {
+            TrailerDenial::Length(length) => (1, length),
+            TrailerDenial::Count(place) => (2, place),
+            TrailerDenial::Place(place) => (3, place),
+        };
+        Report {
+            number,
+            detail,
+            layer: Layer::Trailer,
+        }
+    }
+}
+
+impl From<RecordDenial> for Report {
+    ghost from_gives = { λ d r. r ≡ record_report d };
+
+    fn from(denial: RecordDenial) -> Report {
+        let (number, detail) = match denial {
+            RecordDenial::Layout(lower) => return lower.into(),
+            RecordDenial::Role(place) => (4, place),
+            RecordDenial::Pair(place) => (5, place),
+            RecordDenial::Concept(place) => (6, place),
+            RecordDenial::Rule(place) => (7, place),
+        };
+        Report {
+            number,
+            detail,
+            layer: Layer::Records,
+        }
+    }
+}
+
+impl From<Denial> for Report {
+    ghost from_gives = { λ d r. r ≡ denial_report d };
+
+    fn from(denial: Denial) -> Report {
+        let (number, detail) = match denial {
+            Denial::Unread(lower) => return lower.into(),
+            Denial::Entry(entry) => (8, entry),
+            Denial::Class(class) => (9, class),
+            Denial::Sheet(place) => (10, place),
+            Denial::ShortSheet(needed) => (11, needed),
+            Denial::RoleCount(count) => (12, count),
+            Denial::Width(width) => (13, width),
+            Denial::Classes(count) => (14, count),
+            Denial::Room(class) => (15, class),
+            Denial::Equal(class) => (16, class),
+            Denial::Individuals(count) => (17, count),
+        };
+        Report {
+            number,
+            detail,
+            layer: Layer::Register,
         }
     }
 }
@@ -200,3 +171,61 @@ impl From<RecordDenial> for Denial {
         Denial::Unread(denial)
     }
 }
+
+// A layer is shown as its name.
+impl fmt::Display for Layer {
+    ghost output = { λ l. Some (name_of_layer l) };
+
+    fn fmt<W: fmt::Write>(&self, f: &mut fmt::Formatter<W>) -> fmt::Result {
+        f.write_str(match self {
+            Layer::Trailer => "trailer",
+            Layer::Records => "records",
+            Layer::Register => "register",
+        })
+    }
+}
+
+// A report is shown as "denied", its number, its detail and its layer.
+impl fmt::Display for Report {
+    ghost output = { λ r. Some (text_of_report r) };
+
+    fn fmt<W: fmt::Write>(&self, f: &mut fmt::Formatter<W>) -> fmt::Result {
+        let Report {
+            number,
+            detail,
+            layer,
+        } = self;
+        write!(f, "denied {number} {detail} {layer}")
+    }
+}
+
+// A denial is shown as its report.
+impl fmt::Display for TrailerDenial {
+    ghost output = { λ d. Some (text_of_report (trailer_report d)) };
+
+    fn fmt<W: fmt::Write>(&self, f: &mut fmt::Formatter<W>) -> fmt::Result {
+        self.report().fmt(f)
+    }
+}
+
+impl fmt::Display for RecordDenial {
+    ghost output = { λ d. Some (text_of_report (record_report d)) };
+
+    fn fmt<W: fmt::Write>(&self, f: &mut fmt::Formatter<W>) -> fmt::Result {
+        self.report().fmt(f)
+    }
+}
+
+impl fmt::Display for Denial {
+    ghost output = { λ d. Some (text_of_report (denial_report d)) };
+
+    fn fmt<W: fmt::Write>(&self, f: &mut fmt::Formatter<W>) -> fmt::Result {
+        self.report().fmt(f)
+    }
+}
+
+impl Error for TrailerDenial {}
+
+impl Error for RecordDenial {}
+
+impl Error for Denial {}

@@ -1,146 +1,127 @@
 // The lines of a script, as calls.
 #![tactic(auto)]
 
-use questions::{Base, Source};
+mod items;
 
-// The most nodes that a line can lend.
-const NODES: usize = 16777216;
+use items::Items;
+pub use items::number;
+use questions::{Base, Source, UnknownHierarchy};
+use std::error::Error;
+use std::fmt;
 
 // A line of a script.
-#[derive(Clone, Copy)]
+#[derive(Clone, Copy, PartialEq, Eq, Debug)]
 pub enum Call<'a> {
     // the bytes of a book, in hex
     Book(&'a str),
+    // how many words, and those that are not 0: for each its place, a colon and its hex digits
+    Sheet(usize, &'a str),
+    AskBook(BookQuestion),
+    AskWorld(WorldQuestion),
+    Open(Base),
+    Register(RegisterCall),
+    // two entries
+    Relation(usize, usize),
+    Classes,
+}
+
+// A call that asks the book.
+#[derive(Clone, Copy, PartialEq, Eq, Debug)]
+pub enum BookQuestion {
     Read,
     Parts,
     Below(Source, usize, usize),
     Transitive(Source, usize),
-    // how many words, and those that are not 0: for each its place, a colon and its hex digits
-    Sheet(usize, &'a str),
+}
+
+// A call that asks the world on the sheet.
+#[derive(Clone, Copy, PartialEq, Eq, Debug)]
+pub enum WorldQuestion {
     Judge(usize),
     Keeps(Base),
-    Open(Base),
-    // the entry, and how many nodes are lent
-    File(usize, usize),
-    // two class numbers, and how many nodes are lent
-    Ask(usize, usize, usize),
-    // two class numbers, and how many nodes and words are lent
-    Show(usize, usize, usize, usize),
-    // two entries
-    Relation(usize, usize),
-    Classes,
-    // no call
-    Bad,
 }
 
-impl<'a> Call<'a> {
-    // The call on a line. Numbers are decimal; white space at the ends of the line does not count.
-    pub fn parse(line: &'a str) -> Call<'a> {
-        let (name, rest) = cut(line.trim());
-        let found = match name {
-            "book" => Some(Call::Book(rest)),
-            "read" => alone(rest, Call::Read),
-            "parts" => alone(rest, Call::Parts),
-            "below" => below(rest),
-            "transitive" => transitive(rest),
-            "sheet" => sheet(rest),
-            "judge" => judge(rest),
-            "keeps" => keeps(rest),
-            "open" => open(rest),
-            "file" => file(rest),
-            "ask" => ask(rest),
-            "show" => show(rest),
-            "c" => relation(rest),
-            "classes" => alone(rest, Call::Classes),
-            _ => None,
+// A call on the register, and how many nodes it is lent.
+#[derive(Clone, Copy, PartialEq, Eq, Debug)]
+pub struct RegisterCall {
+    pub action: Action,
+    pub nodes: usize,
+}
+
+#[derive(Clone, Copy, PartialEq, Eq, Debug)]
+pub enum Action {
+    // the entry
+    File(usize),
+    // two class numbers
+    Ask(usize, usize),
+    // two class numbers, and how many words are lent
+    Show(usize, usize, usize),
+}
+
+// A line that is no call.
+#[derive(Clone, Copy, PartialEq, Eq, Debug)]
+pub struct NoCall;
+
+impl fmt::Display for NoCall {
+    fn fmt<W: fmt::Write>(&self, f: &mut fmt::Formatter<W>) -> fmt::Result {
+        f.write_str("no call")
+    }
+}
+
+impl Error for NoCall {}
+
+impl From<UnknownHierarchy> for NoCall {
+    fn from(_unknown: UnknownHierarchy) -> NoCall {
+        NoCall
+    }
+}
+
+// The call on a line. White space at the ends of the line does not count.
+impl<'a> TryFrom<&'a str> for Call<'a> {
+    type Error = NoCall;
+
+    fn try_from(line: &'a str) -> Result<Call<'a>, NoCall> {
+        let mut items = Items::new(line);
+        let call = match items.item() {
+            "book" => Call::Book(items.rest()),
+            "sheet" => Call::Sheet(items.number()?, items.rest()),
+            "read" => Call::AskBook(BookQuestion::Read),
+            "parts" => Call::AskBook(BookQuestion::Parts),
+            "below" => Call::AskBook(BookQuestion::Below(
+                items.item().parse()?,
+                items.number()?,
+                items.number()?,
+            )),
+            "transitive" => Call::AskBook(BookQuestion::Transitive(
+                items.item().parse()?,
+                items.number()?,
+            )),
+            "judge" => Call::AskWorld(WorldQuestion::Judge(items.number()?)),
+            "keeps" => Call::AskWorld(WorldQuestion::Keeps(items.item().parse()?)),
+            "open" => Call::Open(items.item().parse()?),
+            "file" => Call::Register(RegisterCall {
+                action: Action::File(items.number()?),
+                nodes: items.nodes()?,
+            }),
+            "ask" => Call::Register(RegisterCall {
+                action: Action::Ask(items.number()?, items.number()?),
+                nodes: items.nodes()?,
+            }),
+            "show" => {
+                let (a, b, nodes) = (items.number()?, items.number()?, items.nodes()?);
+                Call::Register(RegisterCall {
+                    action: Action::Show(a, b, items.number()?),
+                    nodes,
+                })
+            }
+            "c" => Call::Relation(items.number()?, items.number()?),
+            "classes" => Call::Classes,
+            _ => return Err(NoCall),
         };
-        found.unwrap_or(Call::Bad)
+        if items.is_empty() {
+            Ok(call)
+        } else {
+            Err(NoCall)
+        }
     }
-}
-
-// The first word of a text, and what stands after the space behind it.
-pub fn cut(text: &str) -> (&str, &str) {
-    match text.split_once(' ') {
-        Some((word, rest)) => (word, rest.trim_start()),
-        None => (text, ""),
-    }
-}
-
-fn alone<'a>(rest: &str, call: Call<'a>) -> Option<Call<'a>> {
-    if rest.is_empty() { Some(call) } else { None }
-}
-
-fn below<'a>(rest: &str) -> Option<Call<'a>> {
-    let (name, numbers) = cut(rest);
-    let source = Source::parse(name)?;
-    let (r, s) = cut(numbers);
-    Some(Call::Below(source, number(r)?, number(s)?))
-}
-
-fn transitive<'a>(rest: &str) -> Option<Call<'a>> {
-    let (name, r) = cut(rest);
-    let source = Source::parse(name)?;
-    Some(Call::Transitive(source, number(r)?))
-}
-
-fn sheet<'a>(rest: &'a str) -> Option<Call<'a>> {
-    let (count, words) = cut(rest);
-    Some(Call::Sheet(number(count)?, words))
-}
-
-fn judge<'a>(rest: &str) -> Option<Call<'a>> {
-    Some(Call::Judge(number(rest)?))
-}
-
-fn keeps<'a>(rest: &str) -> Option<Call<'a>> {
-    Some(Call::Keeps(base(rest)?))
-}
-
-fn open<'a>(rest: &str) -> Option<Call<'a>> {
-    Some(Call::Open(base(rest)?))
-}
-
-fn file<'a>(rest: &str) -> Option<Call<'a>> {
-    let (entry, nodes) = cut(rest);
-    Some(Call::File(number(entry)?, nodes_of(nodes)?))
-}
-
-fn ask<'a>(rest: &str) -> Option<Call<'a>> {
-    let (a, rest) = cut(rest);
-    let (b, nodes) = cut(rest);
-    Some(Call::Ask(number(a)?, number(b)?, nodes_of(nodes)?))
-}
-
-fn show<'a>(rest: &str) -> Option<Call<'a>> {
-    let (a, rest) = cut(rest);
-    let (b, rest) = cut(rest);
-    let (nodes, words) = cut(rest);
-    Some(Call::Show(number(a)?, number(b)?, nodes_of(nodes)?, number(words)?))
-}
-
-fn relation<'a>(rest: &str) -> Option<Call<'a>> {
-    let (first, second) = cut(rest);
-    Some(Call::Relation(number(first)?, number(second)?))
-}
-
-fn base(name: &str) -> Option<Base> {
-    match name {
-        "closed" => Some(Base::Closed),
-        "told" => Some(Base::Told),
-        _ => None,
-    }
-}
-
-// How many nodes are lent, at most 2^24, which take less than a gigabyte.
-fn nodes_of(text: &str) -> Option<usize> {
-    let n = number(text)?;
-    if n <= NODES { Some(n) } else { None }
-}
-
-// A decimal number, digits alone.
-pub fn number(text: &str) -> Option<usize> {
-    if text.starts_with('+') {
-        return None;
-    }
-    text.parse::<usize>().ok()
 }

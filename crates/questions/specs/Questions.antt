@@ -1,5 +1,5 @@
 -- What the calls of a script answer, from the sections of the book and the words of the sheet.
-use Rattle.std.specs.Prelude.{◌≡◌, ℕ, Bool, cond, ◌&&◌, List, length, Result, nat_lt, slice_index}
+use Rattle.std.specs.Prelude.{◌≡◌, ℕ, Bool, true, false, cond, ◌&&◌, List, [], ◌++◌, length, codes, Result, nat_lt, slice_index}
 use Rattle.denial.specs.Denials.{Answer, granted, denied, answer, and_then, reported, denial_report}
 use Rattle.denial.specs.declared.Denial.{Denial}
 use Rattle.denial.specs.declared.Layer.TheVariants.{Register}
@@ -12,32 +12,45 @@ use Rattle.roles.specs.Hierarchies.{roles_of}
 use Rattle.sheet.specs.Sheets.{sheet_of, written}
 use Rattle.sheet.specs.Judgements.{judged}
 use Rattle.sheet.specs.Keeping.{KeepsAnswer}
+use Rattle.questions.specs.declared.Base.{Base}
+use Rattle.questions.specs.declared.Base.TheVariants.{Closed, Told}
 use Rattle.questions.specs.declared.Source.{Source}
-use Rattle.questions.specs.declared.Source.TheVariants.{Closed, Told, ClosedUniversal, ToldUniversal}
+use Rattle.questions.specs.declared.Question.{Question}
+use Rattle.questions.specs.declared.Question.TheVariants.{Below, Transitive}
+
+-- how a script names the hierarchies of a book
+abbrev pub name_of_base : Base → List ℕ
+name_of_base Closed = codes "closed"
+name_of_base Told = codes "told"
+
+abbrev pub name_of_source : Source → List ℕ
+name_of_source h = name_of_base h.base ++ cond h.universal (codes "+universal") []
 
 -- an answer over n roles and one more, refused where there is no number for that one
 abbrev pub over_all : ℕ → Bool → Answer Bool
 over_all n b = cond (nat_lt n 64) (granted b) (denied (reported 12 n Register))
 
--- is r below t: closure rows and told pairs answer alike
-abbrev pub below_universal : Sections → ℕ → ℕ → Answer Bool
-below_universal s r t = over_all (length s.roles) (universal_under (length s.roles) (closure (length s.roles) s.pairs) r t)
+-- what an order of n roles, with u and p, answers
+abbrev pub answer_of : Question → ℕ → (ℕ → ℕ → Bool) → (ℕ → Bool) → Bool
+answer_of (Below r t) n u p = u r t
+answer_of (Transitive r) n u p = nat_lt r n && p r
 
+-- the same, where there may be a universal role over it
+abbrev pub answer_over : Bool → Question → ℕ → (ℕ → ℕ → Bool) → (ℕ → Bool) → Answer Bool
+answer_over false q n u p = granted (answer_of q n u p)
+answer_over true q n u p = over_all n (answer_of q (universal_size n) (universal_under n u) (universal_passing n p))
+
+-- closure rows and told pairs answer alike
+abbrev pub answer_from : Source → Question → Sections → Answer Bool
+answer_from h q s = answer_over h.universal q (length s.roles) (closure (length s.roles) s.pairs) (marked s.roles)
+
+-- is r below t
 abbrev pub below_of : Source → Sections → ℕ → ℕ → Answer Bool
-below_of Closed s r t = granted (closure (length s.roles) s.pairs r t)
-below_of Told s r t = granted (closure (length s.roles) s.pairs r t)
-below_of ClosedUniversal s r t = below_universal s r t
-below_of ToldUniversal s r t = below_universal s r t
+below_of h s r t = answer_from h (Below r t) s
 
 -- is r transitive
-abbrev pub transitive_universal : Sections → ℕ → Answer Bool
-transitive_universal s r = over_all (length s.roles) (nat_lt r (universal_size (length s.roles)) && universal_passing (length s.roles) (marked s.roles) r)
-
 abbrev pub transitive_of : Source → Sections → ℕ → Answer Bool
-transitive_of Closed s r = granted (nat_lt r (length s.roles) && marked s.roles r)
-transitive_of Told s r = granted (nat_lt r (length s.roles) && marked s.roles r)
-transitive_of ClosedUniversal s r = transitive_universal s r
-transitive_of ToldUniversal s r = transitive_universal s r
+transitive_of h s r = answer_from h (Transitive r) s
 
 -- the world on a sheet for the book, where the sheet is a good one
 abbrev pub answer_on_sheet : {A : Type 0} → Sections → List ℕ → (Interpretation → Answer A) → Answer A

@@ -1,11 +1,12 @@
 // What a script asks of a book and of the world on a sheet.
 #![tactic(auto)]
 
-ghost use Rattle.std.specs.Prelude.{◌≡◌, ◌&&◌, nat_lt};
+ghost use Rattle.std.specs.Prelude.{◌≡◌, ◌≢◌, MatchResult};
 ghost use Rattle.denial.specs.Denials.{answer, and_then, record_report, denial_report};
-ghost use Rattle.meaning.specs.Universal.{universal_size, universal_under, universal_passing};
 ghost use Rattle.book.specs.Views.{view};
-ghost use Rattle.questions.specs.Questions.{over_all, below_of, transitive_of, individuals_of, judged_of, Kept};
+ghost use Rattle.questions.specs.Questions.{name_of_base, name_of_source, answer_of, answer_over, answer_from, below_of, transitive_of, individuals_of, judged_of, Kept};
+ghost use Rattle.questions.specs.declared.Base.{Base};
+ghost use Rattle.questions.specs.declared.Source.{Source};
 
 use book::Book;
 use denial::{Denial, RecordDenial};
@@ -14,31 +15,102 @@ use roles::rows::Rows;
 use roles::told::Told;
 use roles::universal::Universal;
 use sheet::Sheet;
+use std::error::Error;
+use std::fmt;
+use std::str::FromStr;
 
 // One of the two hierarchies of a book: its closure rows, or its told pairs.
-#[derive(Clone, Copy)]
+#[derive(Clone, Copy, PartialEq, Eq, Debug)]
 pub enum Base {
     Closed,
     Told,
 }
 
 // One of these, alone or under a universal role.
-#[derive(Clone, Copy)]
-pub enum Source {
-    Closed,
-    Told,
-    ClosedUniversal,
-    ToldUniversal,
+#[derive(Clone, Copy, PartialEq, Eq, Debug)]
+pub struct Source {
+    pub base: Base,
+    pub universal: bool,
 }
 
-impl Source {
-    pub fn parse(name: &str) -> Option<Source> {
+// A text that names no hierarchy.
+#[derive(Clone, Copy, PartialEq, Eq, Debug)]
+pub struct UnknownHierarchy;
+
+impl fmt::Display for UnknownHierarchy {
+    fn fmt<W: fmt::Write>(&self, f: &mut fmt::Formatter<W>) -> fmt::Result {
+        f.write_str("no such hierarchy")
+    }
+}
+
+impl Error for UnknownHierarchy {}
+
+impl FromStr for Base {
+    type Err = UnknownHierarchy;
+
+    ghost from_str_gives = { λ text r. MatchResult r (λ b. text ≡ name_of_base b) (λ _. (b : Base) → text ≢ name_of_base b) };
+
+    fn from_str(name: &str) -> Result<Base, UnknownHierarchy> {
         match name {
-            "closed" => Some(Source::Closed),
-            "told" => Some(Source::Told),
-            "closed+universal" => Some(Source::ClosedUniversal),
-            "told+universal" => Some(Source::ToldUniversal),
-            _ => None,
+            "closed" => Ok(Base::Closed),
+            "told" => Ok(Base::Told),
+            _ => Err(UnknownHierarchy),
+        }
+    }
+}
+
+impl FromStr for Source {
+    type Err = UnknownHierarchy;
+
+    ghost from_str_gives = { λ text r. MatchResult r (λ s. text ≡ name_of_source s) (λ _. (s : Source) → text ≢ name_of_source s) };
+
+    fn from_str(name: &str) -> Result<Source, UnknownHierarchy> {
+        let (base, universal) = match name.strip_suffix("+universal") {
+            Some(base) => (base, true),
+            None => (name, false),
+        };
+        Ok(Source {
+            base: base.parse()?,
+            universal,
+        })
+    }
+}
+
+// A question of roles, which any hierarchy answers.
+#[derive(Clone, Copy)]
+enum Question {
+    // whether the first role is below the second
+    Below(usize, usize),
+    // whether the role is transitive
+    Transitive(usize),
+}
+
+impl Question {
+    fn put_to<H: Hierarchy>(self, h: &H) -> bool
+        ensures { result ≡ answer_of self (H.Order.size h.now) (H.Order.under h.now) (H.Hierarchy.passing h.now) }
+    {
+        match self {
+            Question::Below(r, s) => h.below(r, s),
+            Question::Transitive(r) => h.transitive(r),
+        }
+    }
+
+    // The answer of the hierarchy, or of a universal role over it.
+    fn put_over<H: Hierarchy>(self, h: &H, universal: bool) -> Result<bool, Denial>
+        ensures { answer (λ b. b) denial_report result ≡ answer_over universal self (H.Order.size h.now) (H.Order.under h.now) (H.Hierarchy.passing h.now) }
+    {
+        if universal {
+            return Ok(self.put_to(&Universal::over(h)?));
+        }
+        Ok(self.put_to(h))
+    }
+
+    fn put(self, book: &Book, source: Source) -> Result<bool, Denial>
+        ensures { answer (λ b. b) denial_report result ≡ answer_from source self (view book.now) }
+    {
+        match source.base {
+            Base::Closed => self.put_over(&Rows::closed(book), source.universal),
+            Base::Told => self.put_over(&Told::new(book), source.universal),
         }
     }
 }
@@ -47,36 +119,14 @@ impl Source {
 pub fn below(book: &Book, source: Source, r: usize, s: usize) -> Result<bool, Denial>
     ensures { answer (λ b. b) denial_report result ≡ below_of source (view book.now) r s }
 {
-    match source {
-        Source::Closed => Ok(Rows::closed(book).below(r, s)),
-        Source::Told => Ok(Told::new(book).below(r, s)),
-        Source::ClosedUniversal => below_universal(&Rows::closed(book), r, s),
-        Source::ToldUniversal => below_universal(&Told::new(book), r, s),
-    }
-}
-
-fn below_universal<H: Hierarchy>(h: &H, r: usize, s: usize) -> Result<bool, Denial>
-    ensures { answer (λ b. b) denial_report result ≡ over_all (H.Order.size h.now) (universal_under (H.Order.size h.now) (H.Order.under h.now) r s) }
-{
-    Ok(Universal::over(h)?.below(r, s))
+    Question::Below(r, s).put(book, source)
 }
 
 // Whether the role r is transitive.
 pub fn transitive(book: &Book, source: Source, r: usize) -> Result<bool, Denial>
     ensures { answer (λ b. b) denial_report result ≡ transitive_of source (view book.now) r }
 {
-    match source {
-        Source::Closed => Ok(Rows::closed(book).transitive(r)),
-        Source::Told => Ok(Told::new(book).transitive(r)),
-        Source::ClosedUniversal => transitive_universal(&Rows::closed(book), r),
-        Source::ToldUniversal => transitive_universal(&Told::new(book), r),
-    }
-}
-
-fn transitive_universal<H: Hierarchy>(h: &H, r: usize) -> Result<bool, Denial>
-    ensures { answer (λ b. b) denial_report result ≡ over_all (H.Order.size h.now) (nat_lt r (universal_size (H.Order.size h.now)) && universal_passing (H.Order.size h.now) (H.Hierarchy.passing h.now) r) }
-{
-    Ok(Universal::over(h)?.transitive(r))
+    Question::Transitive(r).put(book, source)
 }
 
 // How many individuals are on the sheet, for what reading the book came to.
@@ -89,7 +139,7 @@ pub fn drawn(book: Result<Book, RecordDenial>, words: &[u64]) -> Result<usize, D
 fn individuals(words: &[u64], book: &Book) -> Result<usize, Denial>
     ensures { answer (λ m. m) denial_report result ≡ individuals_of (view book.now) words.now }
 {
-    Ok(<Sheet<'_> as meaning::World>::individuals(&Sheet::new(words, book)?))
+    Ok(Sheet::new(words, book)?.individuals())
 }
 
 // The individuals on the sheet that are in the entry.

@@ -1,33 +1,62 @@
-// The lines of the parts of a book.
+// The lines of the answers that list something.
 use book::parts::{Part, Parts};
+use register::{Shown, Side};
 use std::alloc::{AllocError, Global};
+use std::fmt::Write;
 
 // A line for each part of a book that is read: its kind, its place, its length and its bytes.
 pub fn parts(heap: Global, bytes: &[u8]) -> Result<String, AllocError> {
     let mut out = String::new(heap);
     for part in Parts::new(bytes) {
-        let line = match part {
-            Part::Roles { place, bytes } => part_line(heap, "roles", place, bytes),
-            Part::Pairs { place, bytes } => part_line(heap, "pairs", place, bytes),
-            Part::Concepts { place, bytes } => part_line(heap, "concepts", place, bytes),
-            Part::Rules { place, bytes } => part_line(heap, "rules", place, bytes),
-            Part::Note { place, bytes } => part_line(heap, "note", place, bytes),
-            Part::Trailer { place, bytes } => part_line(heap, "trailer", place, bytes),
+        let (kind, place, bytes) = match part {
+            Part::Roles { place, bytes } => ("roles", place, bytes),
+            Part::Pairs { place, bytes } => ("pairs", place, bytes),
+            Part::Concepts { place, bytes } => ("concepts", place, bytes),
+            Part::Rules { place, bytes } => ("rules", place, bytes),
+            Part::Note { place, bytes } => ("note", place, bytes),
+            Part::Trailer { place, bytes } => ("trailer", place, bytes),
         };
-        out.push_str(line?.as_str())?;
+        let length = bytes.len();
+        write!(out, "{kind} {place} {length}")?;
+        if length > 0 {
+            out.push(' ')?;
+        }
+        for b in bytes {
+            write!(out, "{b:02x}")?;
+        }
+        out.push('\n')?;
     }
     Ok(out)
 }
 
-fn part_line(heap: Global, kind: &str, place: usize, bytes: &[u8]) -> Result<String, AllocError> {
-    let length = bytes.len();
-    let mut line = format!(in heap; "{kind} {place} {length}")?;
-    if length > 0 {
-        line.push(' ')?;
+// "shown", how many individuals, the side, and those of the words needed that are not 0, each after its place.
+pub fn shown(
+    heap: Global,
+    shown: Shown,
+    words: &[u64],
+    roles: usize,
+) -> Result<String, AllocError> {
+    let m = shown.individuals;
+    let side = match shown.side {
+        Side::First => 1,
+        Side::Second => 2,
+    };
+    let mut line = format!(in heap; "shown {m} {side}")?;
+    let needed = roles.saturating_mul(m).saturating_add(65);
+    for (place, word) in words.iter().enumerate().take(needed) {
+        if *word != 0 {
+            write!(line, " {place}:{word:x}")?;
+        }
     }
-    for b in bytes {
-        let digits = format!(in heap; "{b:02x}")?;
-        line.push_str(digits.as_str())?;
+    line.push('\n')?;
+    Ok(line)
+}
+
+// "classes" and the lines of all classes, a semicolon for each newline.
+pub fn on_one_line(heap: Global, lines: &[u8]) -> Result<String, AllocError> {
+    let mut line = String::from_str(heap, "classes ")?;
+    for b in lines {
+        line.push(if *b == b'\n' { ';' } else { char::from(*b) })?;
     }
     line.push('\n')?;
     Ok(line)

@@ -2,7 +2,8 @@
 #![tactic(auto)]
 
 mod answer;
-mod filed;
+mod failure;
+mod hex;
 mod session;
 
 pub use session::Session;

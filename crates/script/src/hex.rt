@@ -1,0 +1,67 @@
+// Bytes and words that a script gives in hex.
+ghost use Rattle.std.specs.Prelude.{◌≡◌, ◌<◌, IfSome};
+ghost use Rattle.script.specs.Digits.{digit_of};
+
+use crate::failure::Failure;
+use grammar::number;
+use std::alloc::Global;
+
+// No sheet needs more words than this: the count, 64 names, and 64 rows for each of 64 roles.
+pub const WORDS: usize = 4161;
+
+// The bytes that a text gives in hex, two digits each.
+pub fn bytes_of(heap: Global, hex: &str) -> Result<Vec<u8>, Failure> {
+    let mut bytes = Vec::new(heap);
+    for pair in hex.as_bytes().chunks(2) {
+        bytes.push(byte_of(pair).ok_or(Failure::BadLine)?)?;
+    }
+    Ok(bytes)
+}
+
+// The byte that two digits write.
+fn byte_of(digits: &[u8]) -> Option<u8> {
+    let [high, low] = digits else {
+        return None;
+    };
+    Some(16 * digit(*high)? + digit(*low)?)
+}
+
+// So many words, of which those named by a place, a colon and hex digits are not 0.
+pub fn words_of(heap: Global, count: usize, named: &str) -> Result<Vec<u64>, Failure> {
+    let mut words = vec![in heap; 0u64; count.min(WORDS)]?;
+    for item in named.split_whitespace() {
+        let (place, word) = item_of(item).ok_or(Failure::BadLine)?;
+        if place >= count {
+            return Err(Failure::BadLine);
+        }
+        if let Some(named) = words.get_mut(place) {
+            *named = word;
+        }
+    }
+    Ok(words)
+}
+
+fn item_of(item: &str) -> Option<(usize, u64)> {
+    let (place, word) = item.split_once(':')?;
+    Some((number(place)?, word_of(word)?))
+}
+
+// The word that 1 to 16 hex digits write.
+fn word_of(text: &str) -> Option<u64> {
+    if text.len() > 16 || text.bytes().any(|b| digit(b).is_none()) {
+        return None;
+    }
+    u64::from_str_radix(text, 16).ok()
+}
+
+// The number that a hex digit stands for. Stays: the library's `to_digit` takes capital letters too, which are no digits here.
+fn digit(b: u8) -> Option<u8>
+    ensures value { result ≡ digit_of b }
+    ensures small { IfSome result (λ d. d < 16) }
+{
+    match b {
+        b'0'..=b'9' => Some(b - b'0'),
+        b'a'..=b'f' => Some(b - b'a' + 10),
+        _ => None,
+    }
+}
