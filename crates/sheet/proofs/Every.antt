@@ -11,8 +11,8 @@ use denote.Param.Members.{Mut}
 
 pub each_below : {F : Type 0} {g : Mut F (ℕ × Unit {0}) Bool} {u : Range ℕ} {f : F} (m n : ℕ) (P : ℕ → Type 0) (r : Bool) → m ≡ n
     → (xs : List ℕ) × (o : Option ℕ) × (j : F) × YieldsThen nat_range_steps (record { start = 0; end = m }) xs o u
-        × FoldsTo (λ p x q. Called g p (x, tt) true q) f xs j
-        × MatchOption o (r ≡ true) (λ x. (r ≡ false) × ((h : F) × Called g j (x, tt) false h))
+    × FoldsTo (λ p x q. Called g p (x, tt) true q) f xs j
+    × MatchOption o (r ≡ true) (λ x. (r ≡ false) × ((h : F) × Called g j (x, tt) false h))
     → ((x : ℕ) (q : F) → Called g f (x, tt) true q → (q ≡ f) × P x) → ((x : ℕ) (q : F) → Called g f (x, tt) false q → P x → ⊥)
     → Decides r ((x : ℕ) → x < n → P x)
 each_below m n P r size ran passes fails =

@@ -1,9 +1,8 @@
 -- What making a sheet rests on: a word's bits below m, and the place of a first one.
-use Rattle.std.proofs.Common.{◌≡◌, ℕ, zero, suc, ◌-◌, ◌%◌, ◌^◌, ◌<◌, Bool, true, false, cond, eqb, ltb, Some, None, Option, sym, ap, ◌∙◌, ⊎_elim, mod-eq_of_lt, arith}
+use Rattle.std.proofs.Common.{◌≡◌, ℕ, ◌-◌, ◌%◌, ◌^◌, ◌<◌, eqb, ltb, sym, ap, ◌∙◌, ⊎_elim, mod-eq_of_lt, arith}
 use lib.Bits.{bit_and}
 use Rattle.std.proofs.lemmas.Nat.{and_mask, pow_pos, mod_below}
 use Rattle.std.proofs.lemmas.Bool.{cases_lt, eq-eqb, ne_eqb, lt-ltb, le-ltb}
-use Rattle.meaning.specs.Bounded.{or_else, first}
 
 -- a word is within the first m bits exactly where it is below 2 ^ m
 pub kept_below : (w m : ℕ) → eqb (bit_and w (2 ^ m - 1)) w ≡ ltb w (2 ^ m)

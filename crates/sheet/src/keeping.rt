@@ -21,7 +21,11 @@ pub fn keeps<W: World, H: Hierarchy>(world: &W, hierarchy: &H, book: &Book) -> R
     if count != book.role_count() {
         return Err(Denial::RoleCount(count));
     }
-    Ok(keeps_inclusions(world, hierarchy) && keeps_transitivity(world, hierarchy) && keeps_rules(world, book))
+    Ok(
+        keeps_inclusions(world, hierarchy)
+            && keeps_transitivity(world, hierarchy)
+            && keeps_rules(world, book),
+    )
 }
 
 fn keeps_inclusions<W: World, H: Hierarchy>(world: &W, hierarchy: &H) -> bool
