@@ -3,3 +3,4 @@ pub mod Sets
 pub mod Books
 pub mod Extending
 pub mod Rules
+pub mod Every

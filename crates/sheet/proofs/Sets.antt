@@ -1,28 +1,11 @@
 -- Sets of individuals as words: one more number, the concepts' kinds, and quantifiers.
-use Rattle.std.proofs.Common.{◌≡◌, ℕ, zero, suc, ◌+◌, ◌*◌, ◌^◌, ◌<◌, ◌≤◌, Bool, true, false, cond, not, ◌&&◌, ◌||◌, ltb, Decides, sym, refl, ap, ◌∙◌, subst, ⊎_elim, add-one, arith}
-use lib.Bits.{bit_or, or_comm, or_shifted}
+use Rattle.std.proofs.Common.{◌≡◌, ℕ, zero, suc, ◌+◌, ◌^◌, ◌<◌, ◌≤◌, Bool, true, false, cond, not, ◌&&◌, ◌||◌, ltb, Decides, sym, refl, ap, ◌∙◌, subst, ⊎_elim, arith}
 use Rattle.std.proofs.lemmas.Bool.{cases_lt, lt-ltb, le-ltb, and_left, or_from, both_ways}
 use Rattle.std.proofs.lemmas.Bool.Decides.{same_from_decides}
 use Rattle.words.specs.Sets.{has, set_of, Within, Disjoint}
 use Rattle.words.proofs.Words.{has_none, has_above, comprehends, set_is}
 use Rattle.meaning.specs.Bounded.{any, all}
 use Rattle.meaning.proofs.Tests.{all_from, all_at}
-
--- 2 ^ x joined to a set of smaller numbers
-pub top_or : (x w : ℕ) → w < 2 ^ x → bit_or w (2 ^ x) ≡ w + 2 ^ x
-top_or x w l =
-    let one : 1 * 2 ^ x ≡ 2 ^ x = omega arith in
-    or_comm w (2 ^ x) ∙ ap (λ n. bit_or n w) (sym one) ∙ or_shifted 1 x w l ∙ omega arith
-
-pub set_none : (p : ℕ → Bool) → 0 ≡ set_of 0 p
-unfolding set_of
-set_none p = refl
-
--- the turn of a loop that makes a set
-pub set_more : (x w : ℕ) (p : ℕ → Bool) (b : Bool) → w ≡ set_of x p → b ≡ p x → w + cond b (2 ^ x) 0 ≡ set_of (x + 1) p
-unfolding set_of
-set_more x w p b e f =
-    ap (λ v. v + cond b (2 ^ x) 0) e ∙ ap (λ t. set_of x p + cond t (2 ^ x) 0) f ∙ ap (λ n. set_of n p) (sym (add-one x))
 
 pub set_fits : (n : ℕ) (p : ℕ → Bool) → set_of n p < 2 ^ n
 set_fits n p = (comprehends n p).fits
@@ -41,18 +24,6 @@ has_set n k p l = (comprehends n p).members k ∙ ap (λ b. b && p k) (lt-ltb k 
 
 pub past_set : (n k : ℕ) (p : ℕ → Bool) → n ≤ k → has (set_of n p) k ≡ false
 past_set n k p l = (comprehends n p).members k ∙ ap (λ b. b && p k) (le-ltb k n l)
-
--- in a loop over the numbers below a size of at most 64, which is m to the code
-pub set_room : (x m size w : ℕ) (p : ℕ → Bool) → size ≤ 64 → m ≡ size → x < m → w ≡ set_of x p → (x < 64) × (w < 2 ^ x)
-set_room x m size w p few e l h = (omega arith, omega (arith, h, set_fits x p))
-
-pub set_end : (x m size w : ℕ) (p : ℕ → Bool) → m ≡ size → m ≤ x → x ≤ m → w ≡ set_of x p → w ≡ set_of size p
-set_end x m size w p e l u h = let same : x ≡ size = omega arith in h ∙ ap (λ n. set_of n p) same
-
--- what a world answers within its bounds
-pub within_bounds : (x m n k : ℕ) (b t : Bool) → x < m → n < k → b ≡ (ltb x m && (ltb n k && t)) → b ≡ t
-within_bounds x m n k b t l u e =
-    e ∙ ap (λ v. v && (ltb n k && t)) (lt-ltb x m l) ∙ ap (λ v. v && t) (lt-ltb n k u)
 
 -- the quantifiers, by de Morgan
 pub any_not_all : (n : ℕ) (p q : ℕ → Bool) → any n (λ y. p y && q y) ≡ not (all n (λ y. not (p y) || not (q y)))

@@ -1,9 +1,8 @@
 -- What making a sheet rests on: a word's bits below m, and the place of a first one.
-use Rattle.std.proofs.Common.{◌≡◌, ℕ, zero, suc, ◌-◌, ◌%◌, ◌^◌, ◌<◌, Bool, true, false, cond, eqb, ltb, Some, None, Option, sym, ap, ◌∙◌, ⊎_elim, mod-eq_of_lt, arith}
+use Rattle.std.proofs.Common.{◌≡◌, ℕ, ◌-◌, ◌%◌, ◌^◌, ◌<◌, eqb, ltb, sym, ap, ◌∙◌, ⊎_elim, mod-eq_of_lt, arith}
 use lib.Bits.{bit_and}
 use Rattle.std.proofs.lemmas.Nat.{and_mask, pow_pos, mod_below}
 use Rattle.std.proofs.lemmas.Bool.{cases_lt, eq-eqb, ne_eqb, lt-ltb, le-ltb}
-use Rattle.meaning.specs.Bounded.{or_else, first}
 
 -- a word is within the first m bits exactly where it is below 2 ^ m
 pub kept_below : (w m : ℕ) → eqb (bit_and w (2 ^ m - 1)) w ≡ ltb w (2 ^ m)
@@ -11,15 +10,3 @@ kept_below w m = ap (λ n. eqb n w) (and_mask w m) ∙ ⊎_elim
     (λ (lt : w < 2 ^ m). eq-eqb (w % 2 ^ m) w (mod-eq_of_lt lt) ∙ sym (lt-ltb w (2 ^ m) lt))
     (λ ge. let p = mod_below w (2 ^ m) (pow_pos m) in ne_eqb (w % 2 ^ m) w (λ e. omega arith) ∙ sym (le-ltb w (2 ^ m) ge))
     (cases_lt w (2 ^ m))
-
--- the first number below n is below n
-pub first_below : (n k : ℕ) (p : ℕ → Bool) → Some k ≡ first n p → k < n
-unfolding first
-first_below zero k p e = absurd (let z : ◌≡◌ {A = ℕ} 0 1 = cc in omega arith)
-first_below (suc n) k p e = go (λ j f. first_below n j p f) (first n p) (p n) (λ j f. f) e
-  where
-    go : ((j : ℕ) → Some j ≡ first n p → j < n) → (o : Option ℕ) (b : Bool) → ((j : ℕ) → Some j ≡ o → Some j ≡ first n p)
-        → Some k ≡ or_else o (cond b (Some n) None) → k < suc n
-    go below (Some j) b same e = let l = below k (same k e) in omega arith
-    go below None true same e = let l : k ≡ n = cc in omega arith
-    go below None false same e = absurd (let z : ◌≡◌ {A = ℕ} 0 1 = cc in omega arith)

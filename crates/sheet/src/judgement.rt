@@ -28,17 +28,19 @@ pub(crate) fn extensions<W: World>(world: &W, book: &Book, n: usize) -> [u64; 64
     requires { n ≤ (says (view book.now)).entries }
     ensures { (i : ℕ) → i < n → slice_index result i ≡ set_of (W.World.interpretation world.now).size (holds (W.World.interpretation world.now) (says (view book.now)).concept i) }
 {
-    let mut sets = [0u64; 64];
+    let mut sets = [0; 64];
+    // Stays: each set is made from those of the entries below it, so no chain over the entries is plainer.
     for i in 0..n {
-        let set = extension(world, book.concept(i), &sets);
-        sets[i] = set;
+        sets[i] = extension(world, book.concept(i), &sets);
     }
     sets
 }
 
 // The set of a concept, from the sets of its parts.
 fn extension<W: World>(world: &W, concept: Concept, sets: &[u64; 64]) -> u64
-    requires { Lower 64 concept × Asked concept × Inside (W.World.interpretation world.now).size sets.now }
+    requires lower { Lower 64 concept }
+    requires asked { Asked concept }
+    requires inside { Inside (W.World.interpretation world.now).size sets.now }
     ensures { result ≡ set_of (W.World.interpretation world.now).size (denotes (W.World.interpretation world.now) concept (λ a. has (slice_index sets.now a))) }
 {
     let all = words::below(world.individuals());
@@ -58,12 +60,7 @@ pub fn bearers<W: World>(world: &W, n: usize) -> u64
     requires { n < 64 }
     ensures { result ≡ set_of (W.World.interpretation world.now).size (λ x. (W.World.interpretation world.now).bears x n) }
 {
-    let m = world.individuals();
-    let mut set = 0;
-    for x in 0..m {
-        set = extend(set, x, world.bears(x, n));
-    }
-    set
+    words::collect(world.individuals(), |x| world.bears(x, n))
 }
 
 // The individuals to which the role r joins x.
@@ -71,24 +68,14 @@ pub fn successors<W: World>(world: &W, r: usize, x: usize) -> u64
     requires { x < (W.World.interpretation world.now).size }
     ensures { result ≡ set_of (W.World.interpretation world.now).size (λ y. (W.World.interpretation world.now).joins r x y) }
 {
-    let m = world.individuals();
-    let mut set = 0;
-    for y in 0..m {
-        set = extend(set, y, world.joins(r, x, y));
-    }
-    set
+    words::collect(world.individuals(), |y| world.joins(r, x, y))
 }
 
 // The individuals in the restriction by the role r whose part, given as a set, stands for part 0.
 fn restricted<W: World>(world: &W, q: Quantifier, r: usize, part: u64) -> u64
     ensures { result ≡ set_of (W.World.interpretation world.now).size (denotes (W.World.interpretation world.now) (Restriction q r 0) (λ a. has part)) }
 {
-    let m = world.individuals();
-    let mut set = 0;
-    for x in 0..m {
-        set = extend(set, x, meets(world, q, r, part, x));
-    }
-    set
+    words::collect(world.individuals(), |x| meets(world, q, r, part, x))
 }
 
 // Whether x is in that restriction.
@@ -102,15 +89,4 @@ fn meets<W: World>(world: &W, q: Quantifier, r: usize, part: u64, x: usize) -> b
         Quantifier::Forall => words::subset(row, part),
         Quantifier::NoneOf => words::disjoint(row, part),
     }
-}
-
-// The set with x, which is above its members, put in where the test holds.
-fn extend(set: u64, x: usize, test: bool) -> u64
-    requires { (x < 64) × (set < 2 ^ x) }
-    ensures { result ≡ set + (if test then 2 ^ x else 0) }
-{
-    if test {
-        return words::insert(set, x);
-    }
-    set
 }

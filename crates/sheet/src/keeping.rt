@@ -1,6 +1,8 @@
 // Whether a world keeps a book under a hierarchy of the book's roles.
-ghost use Rattle.std.specs.Prelude.{◌<◌, ◌&&◌, Decides, nat_lt};
-ghost use Rattle.meaning.specs.Books.{Includes, Passes, KeepsInclusions, KeepsTransitivity, KeepsRules};
+ghost use Rattle.std.specs.Prelude.{◌≡◌, ℕ, ◌<◌, true, ◌&&◌, Decides, nat_lt, slice_index};
+ghost use Rattle.words.specs.Sets.{set_of};
+ghost use Rattle.meaning.specs.Worlds.{holds};
+ghost use Rattle.meaning.specs.Books.{Includes, Passes, Obeys, KeepsInclusions, KeepsTransitivity, KeepsRules};
 ghost use Rattle.meaning.specs.Orders.{role_box};
 ghost use Rattle.book.specs.Sections.{says};
 ghost use Rattle.book.specs.Views.{view};
@@ -19,55 +21,49 @@ pub fn keeps<W: World, H: Hierarchy>(world: &W, hierarchy: &H, book: &Book) -> R
     if count != book.role_count() {
         return Err(Denial::RoleCount(count));
     }
-    if !keeps_inclusions(world, hierarchy) {
-        return Ok(false);
-    }
-    if !keeps_transitivity(world, hierarchy) {
-        return Ok(false);
-    }
-    Ok(keeps_rules(world, book))
+    Ok(
+        keeps_inclusions(world, hierarchy)
+            && keeps_transitivity(world, hierarchy)
+            && keeps_rules(world, book),
+    )
 }
 
 fn keeps_inclusions<W: World, H: Hierarchy>(world: &W, hierarchy: &H) -> bool
     ensures { Decides result (KeepsInclusions (H.Order.under hierarchy.now) (W.World.interpretation world.now)) }
 {
-    let n = hierarchy.count();
-    for r in 0..n {
-        for s in 0..n {
-            if hierarchy.below(r, s) && !includes(world, r, s) {
-                return false;
-            }
-        }
-    }
-    true
+    (0..hierarchy.count()).all(|r| keeps_uppers(world, hierarchy, r))
+}
+
+// Whether the pairs of r are pairs of every role that it is below.
+fn keeps_uppers<W: World, H: Hierarchy>(world: &W, hierarchy: &H, r: usize) -> bool
+    ensures { Decides result ((s : ℕ) → H.Order.under hierarchy.now r s ≡ true → Includes (W.World.interpretation world.now) r s) }
+{
+    (0..hierarchy.count()).all(|s| !hierarchy.below(r, s) || includes(world, r, s))
 }
 
 fn keeps_transitivity<W: World, H: Hierarchy>(world: &W, hierarchy: &H) -> bool
     ensures { Decides result (KeepsTransitivity (λ r. nat_lt r (H.Order.size hierarchy.now) && H.Hierarchy.passing hierarchy.now r) (W.World.interpretation world.now)) }
 {
-    let n = hierarchy.count();
-    for r in 0..n {
-        if hierarchy.transitive(r) && !passes(world, r) {
-            return false;
-        }
-    }
-    true
+    (0..hierarchy.count()).all(|r| !hierarchy.transitive(r) || passes(world, r))
 }
 
 fn keeps_rules<W: World>(world: &W, book: &Book) -> bool
     ensures { Decides result (KeepsRules (says (view book.now)) (W.World.interpretation world.now)) }
 {
     let sets = extensions(world, book, book.entry_count());
-    let n = book.rule_count();
-    for k in 0..n {
-        let rule = book.rule(k);
-        let premise = sets[rule.premise as usize];
-        let conclusion = sets[rule.conclusion as usize];
-        if !words::subset(premise, conclusion) {
-            return false;
-        }
-    }
-    true
+    (0..book.rule_count()).all(|k| obeys(world, book, &sets, k))
+}
+
+// Whether the world, with these sets in the book's entries, obeys rule k.
+fn obeys<W: World>(world: &W, book: &Book, sets: &[u64; 64], k: usize) -> bool
+    requires inside { k < (says (view book.now)).rules }
+    requires known { (i : ℕ) → i < (says (view book.now)).entries → slice_index sets.now i ≡ set_of (W.World.interpretation world.now).size (holds (W.World.interpretation world.now) (says (view book.now)).concept i) }
+    ensures { Decides result (Obeys (W.World.interpretation world.now) (says (view book.now)).concept ((says (view book.now)).rule k).premise ((says (view book.now)).rule k).conclusion) }
+{
+    let rule = book.rule(k);
+    let premise = sets[rule.premise as usize];
+    let conclusion = sets[rule.conclusion as usize];
+    words::subset(premise, conclusion)
 }
 
 // Whether every pair of r is a pair of s.
@@ -81,20 +77,21 @@ fn includes<W: World>(world: &W, r: usize, s: usize) -> bool
 fn passes<W: World>(world: &W, r: usize) -> bool
     ensures { Decides result (Passes (W.World.interpretation world.now) r) }
 {
-    let m = world.individuals();
-    for x in 0..m {
-        for y in 0..m {
-            if world.joins(r, x, y) && !row_within(world, r, y, r, x) {
-                return false;
-            }
-        }
-    }
-    true
+    (0..world.individuals()).all(|x| passes_from(world, r, x))
+}
+
+// Whether r joins x to z where it joins it to y and y to z.
+fn passes_from<W: World>(world: &W, r: usize, x: usize) -> bool
+    requires { x < (W.World.interpretation world.now).size }
+    ensures { Decides result ((y : ℕ) → y < (W.World.interpretation world.now).size → (W.World.interpretation world.now).joins r x y ≡ true → RowWithin (W.World.interpretation world.now) r y r x) }
+{
+    (0..world.individuals()).all(|y| !world.joins(r, x, y) || row_within(world, r, y, r, x))
 }
 
 // Whether each individual to which r joins x is one to which s joins z.
 fn row_within<W: World>(world: &W, r: usize, x: usize, s: usize, z: usize) -> bool
-    requires { (x < (W.World.interpretation world.now).size) × (z < (W.World.interpretation world.now).size) }
+    requires first { x < (W.World.interpretation world.now).size }
+    requires second { z < (W.World.interpretation world.now).size }
     ensures { Decides result (RowWithin (W.World.interpretation world.now) r x s z) }
 {
     words::subset(successors(world, r, x), successors(world, s, z))

@@ -1,5 +1,5 @@
 // A sheet: a world of 1 to 64 individuals, written as 64-bit words for the roles of a book.
-ghost use Rattle.std.specs.Prelude.{◌≡◌, ◌<◌, ◌≤◌, length, IfOk, slice_index};
+ghost use Rattle.std.specs.Prelude.{◌≡◌, ◌<◌, ◌≤◌, ◌+◌, ◌*◌, length, IfSome, IfOk, slice_index};
 ghost use Rattle.denial.specs.Denials.{answer, denial_report};
 ghost use Rattle.book.specs.Sections.{says};
 ghost use Rattle.book.specs.Views.{view};
@@ -12,10 +12,11 @@ use meaning::World;
 // The most individuals, one for each bit of a word.
 const MOST: u64 = 64;
 
-const NAMES: usize = 64;
+// How many names a sheet has a word for.
+pub const NAMES: usize = 64;
 
 // The place of the first row of the first role: after word 0 and the names.
-const ROWS: usize = 65;
+pub const ROWS: usize = 1 + NAMES;
 
 // Word 0 is the number m of individuals, words 1 to 64 are the names, and then each role has m words, one for each
 // individual: the set of those that it joins it to.
@@ -34,7 +35,7 @@ impl<'a> Sheet<'a> {
         ensures world { IfOk result (λ s. sheet_world s.roles s.words.now ≡ written s.roles (slice_index words.now 0) words.now) }
     {
         let roles = book.role_count();
-        if words.len() == 0 || words[0] == 0 || words[0] > MOST {
+        if words.is_empty() || words[0] == 0 || words[0] > MOST {
             return Err(Denial::Sheet(0));
         }
         if words.len() < ROWS + roles * words[0] as usize {
@@ -53,25 +54,21 @@ impl<'a> Sheet<'a> {
     fn word(&self, i: usize) -> u64
         ensures { result ≡ slice_index self.now.words.now i }
     {
-        if i >= self.words.len() {
-            return 0;
-        }
-        self.words[i]
+        self.words.get(i).copied().unwrap_or(0)
     }
 }
 
 // The first word after word 0 with a bit at the number of individuals or above, counted from 0.
 fn first_stray(words: &[u64], roles: usize) -> Option<usize>
-    requires { (roles ≤ 64) × (0 < slice_index words.now 0) × (slice_index words.now 0 ≤ 64) × (needed roles (slice_index words.now 0) ≤ length words.now) }
-    ensures { result ≡ lowest_stray roles words.now }
+    requires few_roles { roles ≤ 64 }
+    requires some { 0 < slice_index words.now 0 }
+    requires few { slice_index words.now 0 ≤ 64 }
+    requires enough { needed roles (slice_index words.now 0) ≤ length words.now }
+    ensures value { result ≡ lowest_stray roles words.now }
+    ensures inside { IfSome result (λ k. k < 64 + roles * slice_index words.now 0) }
 {
     let m = words[0] as usize;
-    for k in 0..NAMES + roles * m {
-        if is_stray(words[k + 1], m) {
-            return Some(k);
-        }
-    }
-    None
+    (0..NAMES + roles * m).find(|k| is_stray(words[*k + 1], m))
 }
 
 fn is_stray(word: u64, m: usize) -> bool
@@ -87,28 +84,15 @@ impl<'a> World for Sheet<'a> {
     ghost sized = { λ x. held_sized x.roles x.words.now };
 
     fn individuals(&self) -> usize {
-        let m = self.word(0);
-        if m == 0 {
-            return 1;
-        }
-        if m > MOST {
-            return MOST as usize;
-        }
-        m as usize
+        self.word(0).clamp(1, MOST) as usize
     }
 
     fn bears(&self, x: usize, n: usize) -> bool {
-        if x < self.individuals() && n < NAMES {
-            return words::member(self.word(1 + n), x);
-        }
-        false
+        x < self.individuals() && n < NAMES && words::member(self.word(1 + n), x)
     }
 
     fn joins(&self, r: usize, x: usize, y: usize) -> bool {
         let m = self.individuals();
-        if r < self.roles as usize && x < m && y < m {
-            return words::member(self.word(ROWS + r * m + x), y);
-        }
-        false
+        r < self.roles as usize && x < m && y < m && words::member(self.word(ROWS + r * m + x), y)
     }
 }

@@ -29,12 +29,12 @@ pub returns-in-And : goal.returns-in-And
 returns-in-And g c =
     let W = g.W.World.interpretation c.args.world.now in
     and_set W.size c.intersection.result (get_or c.args.sets.now c.in-And.a 0) (get_or c.args.sets.now c.in-And.b 0)
-    (g.W.World.sized c.args.world.now).few c.intersection.type_inv (c.requires.2 c.in-And.a) c.intersection.ensures.members
+    (g.W.World.sized c.args.world.now).few c.intersection.type_inv (c.requires.inside c.in-And.a) c.intersection.ensures.members
     ∙ sym (ap (λ k. set_of W.size (denotes W k (λ a. has (get_or c.args.sets.now a 0)))) c.in-And.is)
 
 pub returns-in-Or : goal.returns-in-Or
 returns-in-Or g c =
     let W = g.W.World.interpretation c.args.world.now in
     or_set W.size c.union.result (get_or c.args.sets.now c.in-Or.a 0) (get_or c.args.sets.now c.in-Or.b 0)
-    (g.W.World.sized c.args.world.now).few c.union.type_inv (c.requires.2 c.in-Or.a) (c.requires.2 c.in-Or.b) c.union.ensures.members
+    (g.W.World.sized c.args.world.now).few c.union.type_inv (c.requires.inside c.in-Or.a) (c.requires.inside c.in-Or.b) c.union.ensures.members
     ∙ sym (ap (λ k. set_of W.size (denotes W k (λ a. has (get_or c.args.sets.now a 0)))) c.in-Or.is)

@@ -1,13 +1,12 @@
-use Rattle.std.proofs.Common.{refl, arith, below_more}
+use Rattle.std.proofs.Common.{ℕ, ◌≡◌, true, rules}
+use Rattle.meaning.specs.Books.{Includes}
+use Rattle.sheet.proofs.Every.{each_below}
 use Rattle.sheet.proofs.keeping.keeps_inclusions.Goals as goal
 
-pub loop-r-preserved : goal.loop-r-preserved
-loop-r-preserved g c =
-    below_more _ _ c.loop-r.invariant
-    (λ s u. c.loop-s.invariant s (omega (arith, c.count-n.ensures, c.loop-s-test.false, ((g.H.Order.lawful c.args.hierarchy.now).within _ _ u).1)) u)
-
 pub returns : goal.returns
-returns g c = (
-  (λ _ r s u. c.loop-r.invariant r (omega (arith, c.count-n.ensures, c.loop-r-test.false, ((g.H.Order.lawful c.args.hierarchy.now).within _ _ u).0)) s u),
-  (λ _. refl),
-)
+returns g c =
+    let W = g.W.World.interpretation c.args.world.now in
+    let h = c.args.hierarchy.now in
+    let P = λ (r : ℕ). (s : ℕ) → g.H.Order.under h r s ≡ true → Includes W r s in
+    let d = each_below c.count.result (g.H.Order.size h) P _ c.count.ensures c.all.ensures.ran (λ x q e. search rules) (λ x q e. search rules) in
+    ((λ e r s u. d.0 e r ((g.H.Order.lawful h).within _ _ u).0 s u), (λ each. d.1 (λ r l s u. each r s u)))

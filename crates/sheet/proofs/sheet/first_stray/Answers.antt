@@ -1,12 +1,11 @@
-use Rattle.std.proofs.Common.{sym, arith, below_more}
-use Rattle.meaning.proofs.Firsts.{first_none, first_some}
+use Rattle.std.proofs.Common.{◌+◌, ◌*◌, ℕ, get_or, rules}
+use Rattle.std.proofs.lemmas.Iterator.{first_from_Range}
+use Rattle.meaning.proofs.Firsts.{first_found}
+use Rattle.sheet.specs.Sheets.{strays}
 use Rattle.sheet.proofs.sheet.first_stray.Goals as goal
 
-pub loop-k-preserved : goal.loop-k-preserved
-loop-k-preserved c = below_more _ _ c.loop-k.invariant (sym c.if-is_stray.ensures)
-
-pub returns-then-is_stray : goal.returns-then-is_stray
-returns-then-is_stray c = sym (first_some _ _ _ c.loop-k-test.true c.loop-k.invariant (sym c.if-is_stray.ensures))
-
-pub returns : goal.returns
-returns c = sym (first_none _ _ (λ k h. c.loop-k.invariant k (omega (arith, c.loop-k-test.false))))
+pub returns-clause-value : goal.returns-clause-value
+returns-clause-value c =
+    let ws = c.args.words.now in
+    let m = get_or ws 0 0 in
+    first_found (64 + c.args.roles * m) (λ (k : ℕ). strays m (get_or ws (k + 1) 0)) _ (first_from_Range _ _ _ _ _ _ c.find.ensures.ran (λ x q e. search rules) (λ x q e. search rules))
