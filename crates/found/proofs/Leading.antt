@@ -17,7 +17,7 @@ use Rattle.plan.specs.Meanings.{table_in, box_in}
 use Rattle.search.specs.declared.Node.{Node}
 use Rattle.search.specs.Nodes.{blank, label_of, labels}
 use Rattle.sheet.proofs.Sets.{set_same}
-use Rattle.found.specs.Founds.{is_lowest, leads_in, edge_in}
+use Rattle.found.specs.Founds.{is_lowest, leads_in, targets_in, edge_in}
 use Rattle.found.proofs.Unions.{empty_set, any_none, any_more}
 
 -- the set of k alone
@@ -84,11 +84,10 @@ pub led_more : (p : Plan) (ls : List Label) (l : Label) (m t : ℕ) → m ≤ 64
     → is ≡ bit_or was more → is ≡ set_of m (led_to p ls l (i + 1) t)
 led_more p ls l m t few i was more is e f g = g ∙ any_more m (λ i. leads_in p ls l i t) few i was more e f
 
--- all entries of a node's label
-pub led_all : (p : Plan) (nodes : List Node) (t x i w : ℕ) → x < length nodes → i ≡ p.width → w ≡ set_of (length nodes) (led_to p (labels nodes) (get_or nodes x blank).label i t)
+-- the edges of an individual are those of its label
+pub targets_of : (p : Plan) (nodes : List Node) (t x w : ℕ) → x < length nodes → w ≡ set_of (length nodes) (targets_in p (labels nodes) (get_or nodes x blank).label t)
     → w ≡ set_of (length nodes) (edge_in p (labels nodes) t x)
 unfolding edge
-led_all p nodes t x i w h e whole =
-    whole ∙ ap (λ n. set_of (length nodes) (led_to p (labels nodes) (get_or nodes x blank).label n t)) e
-    ∙ set_same (length nodes) (led_to p (labels nodes) (get_or nodes x blank).label p.width t) (edge_in p (labels nodes) t x)
-    (λ y _. ap (λ l. led_to p (labels nodes) l p.width t y) (sym (get_or-map label_of nodes x blank empty h)))
+targets_of p nodes t x w h whole =
+    whole ∙ set_same (length nodes) (targets_in p (labels nodes) (get_or nodes x blank).label t) (edge_in p (labels nodes) t x)
+    (λ y _. ap (λ l. targets_in p (labels nodes) l t y) (sym (get_or-map label_of nodes x blank empty h)))

@@ -34,6 +34,10 @@ is_lowest ls seed y = lowest ls seed == y
 abbrev pub leads_in : Plan → List Label → Label → ℕ → ℕ → ℕ → Bool
 leads_in p ls l i t y = leads (box_in p) (table_in p) ls l (obliged_at (table_in p) l i) t y
 
+-- so does some entry of a node so labelled
+abbrev pub targets_in : Plan → List Label → Label → ℕ → ℕ → Bool
+targets_in p ls l t y = any p.width (λ i. leads_in p ls l i t y)
+
 abbrev pub edge_in : Plan → List Label → ℕ → ℕ → ℕ → Bool
 edge_in p ls t x y = edge (box_in p) (table_in p) ls t x y
 

@@ -21,8 +21,8 @@ fn pass(rows: &mut [u64; 64], m: usize, k: usize)
     ensures { (x : ℕ) → x < m → slice_index rows.new x ≡ by_way_of k (slice_index rows.old k) (slice_index rows.old x) }
 {
     let middle = rows[k];
-    for x in 0..m {
-        rows[x] = by_way(k, middle, rows[x]);
+    for row in rows[..m].iter_mut() {
+        *row = by_way(k, middle, *row);
     }
 }
 

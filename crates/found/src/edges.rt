@@ -2,66 +2,72 @@
 ghost use Rattle.std.specs.Prelude.{◌≡◌, ◌<◌, ◌≤◌, length};
 ghost use Rattle.words.specs.Sets.{set_of};
 ghost use Rattle.search.specs.Nodes.{labels};
-ghost use Rattle.found.specs.Founds.{is_lowest, leads_in, edge_in};
+ghost use Rattle.found.specs.Founds.{is_lowest, leads_in, targets_in, edge_in};
 ghost use Rattle.found.specs.Rows.{RowsOf};
 
 use plan::Plan;
 use search::Node;
 use tableau::Label;
 
-// The lowest node whose label contains the seed, as a set: empty where there is none.
-fn holder(nodes: &[Node], seed: Label) -> u64
-    requires { length nodes.now ≤ 64 }
-    ensures { result ≡ set_of (length nodes.now) (is_lowest (labels nodes.now) seed) }
-{
-    match search::lowest(nodes, seed) {
-        Some(y) => words::single(y),
-        None => 0,
-    }
+// The edges of the nodes that a search leaves, below one role of the plan.
+#[derive(Clone, Copy)]
+pub struct Edges<'a> {
+    pub plan: &'a Plan,
+    pub nodes: &'a [Node],
+    pub role: usize,
+    ghost few: { length nodes.now ≤ 64 },
+    ghost low: { role < 64 },
 }
 
-// Where entry i leads a node with the label by a role below t, as a set.
-fn led(plan: &Plan, nodes: &[Node], label: Label, t: usize, i: usize) -> u64
-    requires few { length nodes.now ≤ 64 }
-    requires role { t < 64 }
-    requires place { i < plan.now.width }
-    ensures { result ≡ set_of (length nodes.now) (leads_in plan.now (labels nodes.now) label i t) }
-{
-    match successor::obligation_at(plan, label, i) {
-        Some(d) if words::member(plan.rows[d.role as usize], t) => {
-            holder(
-                nodes,
-                successor::seed(plan, label, d.role as usize, d.sign, d.part as usize),
-            )
+impl<'a> Edges<'a> {
+    // The lowest node whose label contains the seed, as a set: empty where there is none.
+    fn holder(&self, seed: Label) -> u64
+        ensures { result ≡ set_of (length self.now.nodes.now) (is_lowest (labels self.now.nodes.now) seed) }
+    {
+        match search::lowest(self.nodes, seed) {
+            Some(y) => words::single(y),
+            None => 0,
         }
-        _ => 0,
     }
-}
 
-// The individuals to which x has an edge by a role below t.
-fn targets(plan: &Plan, nodes: &[Node], t: usize, x: usize) -> u64
-    requires few { length nodes.now ≤ 64 }
-    requires role { t < 64 }
-    requires individual { x < length nodes.now }
-    ensures { result ≡ set_of (length nodes.now) (edge_in plan.now (labels nodes.now) t x) }
-{
-    let label = nodes[x].label;
-    let mut set = 0;
-    for i in 0..plan.width {
-        set = words::union(set, led(plan, nodes, label, t, i));
+    // Where entry i leads a node with the label, as a set.
+    fn led(&self, label: Label, i: usize) -> u64
+        requires { i < self.now.plan.now.width }
+        ensures { result ≡ set_of (length self.now.nodes.now) (leads_in self.now.plan.now (labels self.now.nodes.now) label i self.now.role) }
+    {
+        match successor::obligation_at(self.plan, label, i) {
+            Some(d) if words::member(self.plan.rows[d.role as usize], self.role) => {
+                self.holder(successor::seed(
+                    self.plan,
+                    label,
+                    d.role as usize,
+                    d.sign,
+                    d.part as usize,
+                ))
+            }
+            _ => 0,
+        }
     }
-    set
-}
 
-// The same for each individual.
-pub fn edges(plan: &Plan, nodes: &[Node], t: usize) -> [u64; 64]
-    requires few { length nodes.now ≤ 64 }
-    requires role { t < 64 }
-    ensures { RowsOf (length nodes.now) (edge_in plan.now (labels nodes.now) t) result }
-{
-    let mut rows = [0u64; 64];
-    for x in 0..nodes.len() {
-        rows[x] = targets(plan, nodes, t, x);
+    // The individuals to which a node with the label has an edge.
+    fn targets(&self, label: Label) -> u64
+        ensures { result ≡ set_of (length self.now.nodes.now) (targets_in self.now.plan.now (labels self.now.nodes.now) label self.now.role) }
+    {
+        let mut set = 0;
+        for i in 0..self.plan.width {
+            set = words::union(set, self.led(label, i));
+        }
+        set
     }
-    rows
+
+    // The same for each individual.
+    pub fn rows(&self) -> [u64; 64]
+        ensures { RowsOf (length self.now.nodes.now) (edge_in self.now.plan.now (labels self.now.nodes.now) self.now.role) result }
+    {
+        let mut rows = [0; 64];
+        for (x, node) in self.nodes.iter().enumerate() {
+            rows[x] = self.targets(node.label);
+        }
+        rows
+    }
 }

@@ -4,7 +4,8 @@ ghost use Rattle.words.specs.Sets.{has, set_of};
 ghost use Rattle.found.specs.Founds.{added_in, joined_to};
 ghost use Rattle.found.specs.Rows.{RowsOf, chains_of, share_of};
 
-use crate::{closure, edges};
+use crate::closure;
+use crate::edges::Edges;
 use plan::Plan;
 use search::Node;
 
@@ -21,52 +22,48 @@ fn only(test: bool, set: u64) -> u64
     if test { set } else { 0 }
 }
 
-// What a row of the role t gets from the role q: q's own row, if t is q, and the row of q's chains, if q is below t.
-fn share(plan: &Plan, q: usize, t: usize, own: u64, chain: u64) -> u64
-    requires { (q < 64) × (t < 64) }
-    ensures { result ≡ share_of (t == q) (has (slice_index plan.now.rows q) t) own chain }
-{
-    words::union(
-        only(t == q, own),
-        only(words::member(plan.rows[q], t), chain),
-    )
-}
-
-// Joins to each row of the table what it gets from the role q.
-fn spread(plan: &Plan, q: usize, own: &[u64; 64], chains: &[u64; 64], table: &mut [u64; 4096])
-    requires { q < 64 }
-    ensures { (t x : ℕ) → t < 64 → x < 64 → slice_index table.new (64 * t + x) ≡ bit_or (slice_index table.old (64 * t + x)) (share_of (t == q) (has (slice_index plan.now.rows q) t) (slice_index own.now x) (slice_index chains.now x)) }
-{
-    for k in 0..TABLE {
-        table[k] = words::union(
-            table[k],
-            share(plan, q, k / ROWS, own[k % ROWS], chains[k % ROWS]),
-        );
+impl<'a> Edges<'a> {
+    // What a row of the role t gets from the role of the edges: its own row, if t is that role, and the row of its chains,
+    // if it is below t.
+    fn share(&self, t: usize, own: u64, chain: u64) -> u64
+        requires { t < 64 }
+        ensures { result ≡ share_of (t == self.now.role) (has (slice_index self.now.plan.now.rows self.now.role) t) own chain }
+    {
+        words::union(
+            only(t == self.role, own),
+            only(words::member(self.plan.rows[self.role], t), chain),
+        )
     }
-}
 
-// The chains of the edges of the role q, if it is transitive.
-fn chains(plan: &Plan, q: usize, edges: [u64; 64], m: usize) -> [u64; 64]
-    requires { (q < 64) × (m ≤ 64) }
-    ensures { (R : ℕ → ℕ → Bool) → RowsOf m R edges → RowsOf m (chains_of (has plan.now.marks q) m R) result }
-{
-    if !words::member(plan.marks, q) {
-        return [0; 64];
+    // Joins to each row of the table what it gets.
+    fn spread(&self, own: &[u64; 64], chains: &[u64; 64], table: &mut [u64; 4096])
+        ensures { (t x : ℕ) → t < 64 → x < 64 → slice_index table.new (64 * t + x) ≡ bit_or (slice_index table.old (64 * t + x)) (share_of (t == self.now.role) (has (slice_index self.now.plan.now.rows self.now.role) t) (slice_index own.now x) (slice_index chains.now x)) }
+    {
+        for (k, row) in table.iter_mut().enumerate() {
+            *row = words::union(*row, self.share(k / ROWS, own[k % ROWS], chains[k % ROWS]));
+        }
     }
-    let mut rows = edges;
-    closure::close(&mut rows, m);
-    rows
-}
 
-// Adds to the table what the edges of the role q add, each worked out once.
-fn add(plan: &Plan, nodes: &[Node], q: usize, table: &mut [u64; 4096])
-    requires role { q < 64 }
-    requires few { length nodes.now ≤ 64 }
-    ensures { (t x : ℕ) → t < 64 → x < length nodes.now → slice_index table.new (64 * t + x) ≡ bit_or (slice_index table.old (64 * t + x)) (set_of (length nodes.now) (added_in plan.now nodes.now q t x)) }
-{
-    let own = edges::edges(plan, nodes, q);
-    let far = chains(plan, q, own, nodes.len());
-    spread(plan, q, &own, &far, table);
+    // The chains of the edges, if their role is transitive.
+    fn chains(&self, edges: [u64; 64]) -> [u64; 64]
+        ensures { (R : ℕ → ℕ → Bool) → RowsOf (length self.now.nodes.now) R edges → RowsOf (length self.now.nodes.now) (chains_of (has self.now.plan.now.marks self.now.role) (length self.now.nodes.now) R) result }
+    {
+        if !words::member(self.plan.marks, self.role) {
+            return [0; 64];
+        }
+        let mut rows = edges;
+        closure::close(&mut rows, self.nodes.len());
+        rows
+    }
+
+    // Adds to the table what the edges add, each worked out once.
+    fn add(&self, table: &mut [u64; 4096])
+        ensures { (t x : ℕ) → t < 64 → x < length self.now.nodes.now → slice_index table.new (64 * t + x) ≡ bit_or (slice_index table.old (64 * t + x)) (set_of (length self.now.nodes.now) (added_in self.now.plan.now self.now.nodes.now self.now.role t x)) }
+    {
+        let own = self.rows();
+        let far = self.chains(own);
+        self.spread(&own, &far, table);
+    }
 }
 
 // What each role joins each individual to.
@@ -76,8 +73,9 @@ pub fn table(plan: &Plan, nodes: &[Node]) -> [u64; 4096]
     ensures { (t x : ℕ) → t < 64 → x < length nodes.now → slice_index result (64 * t + x) ≡ set_of (length nodes.now) (joined_to plan.now nodes.now plan.now.count t x) }
 {
     let mut table = [0; TABLE];
-    for q in 0..plan.count {
-        add(plan, nodes, q, &mut table);
+    for role in 0..plan.count {
+        let edges = Edges { plan, nodes, role };
+        edges.add(&mut table);
     }
     table
 }

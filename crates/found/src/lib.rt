@@ -42,7 +42,7 @@ impl<'a> Found<'a> {
         ensures roles { IfOk result (λ f. f.roles ≡ plan_roles plan.now) }
         ensures world { IfOk result (λ f. Agree (plan_roles plan.now) (kept_world f.nodes.now f.roles f.names f.rows) (found_in plan.now (labels nodes.now))) }
     {
-        if nodes.len() == 0 || nodes.len() > MOST {
+        if nodes.is_empty() || nodes.len() > MOST {
             return Err(Denial::Individuals(nodes.len()));
         }
         Ok(Found {
@@ -57,20 +57,14 @@ impl<'a> Found<'a> {
     fn row(&self, k: usize) -> u64
         ensures { result ≡ slice_index self.now.rows k }
     {
-        if k < self.rows.len() {
-            return self.rows[k];
-        }
-        0
+        self.rows.get(k).copied().unwrap_or(0)
     }
 
     // The entries that the label of x has with +, none past the end.
     fn plus(&self, x: usize) -> u64
         ensures { result ≡ (slice_index_or self.now.nodes.now x blank).label.plus }
     {
-        if x < self.nodes.len() {
-            return self.nodes[x].label.plus;
-        }
-        0
+        self.nodes.get(x).map_or(0, |node| node.label.plus)
     }
 }
 
@@ -88,28 +82,15 @@ impl<'a> World for Found<'a> {
     ghost sized = { λ x. kept_sized x.nodes.now x.roles x.names x.rows };
 
     fn individuals(&self) -> usize {
-        let m = self.nodes.len();
-        if m == 0 {
-            return 1;
-        }
-        if m > MOST {
-            return MOST;
-        }
-        m
+        self.nodes.len().clamp(1, MOST)
     }
 
     fn bears(&self, x: usize, n: usize) -> bool {
-        if x < self.individuals() && n < NAMES {
-            return !words::disjoint(self.plus(x), self.names[n]);
-        }
-        false
+        x < self.individuals() && n < NAMES && !words::disjoint(self.plus(x), self.names[n])
     }
 
     fn joins(&self, r: usize, x: usize, y: usize) -> bool {
         let m = self.individuals();
-        if r < self.roles as usize && x < m && y < m {
-            return words::member(self.row(ROWS * r + x), y);
-        }
-        false
+        r < self.roles as usize && x < m && y < m && words::member(self.row(ROWS * r + x), y)
     }
 }

@@ -26,9 +26,8 @@ fn note(sets: &mut [u64; 64], entry: Entry, i: usize)
     requires { i < 64 }
     ensures { (k j : ℕ) → k < 64 → has (slice_index sets.new k) j ≡ (is_name k entry && j == i || has (slice_index sets.old k) j) }
 {
-    match entry {
-        Entry::Plain(Concept::Name(n)) => put(sets, n as usize, i),
-        _ => {}
+    if let Entry::Plain(Concept::Name(n)) = entry {
+        put(sets, n as usize, i);
     }
 }
 
@@ -37,8 +36,8 @@ pub fn names(plan: &Plan) -> [u64; 64]
     ensures { (n i : ℕ) → n < 64 → has (slice_index result n) i ≡ (nat_lt i plan.now.width && is_name_in plan.now n i) }
 {
     let mut sets = [0u64; 64];
-    for i in 0..plan.width {
-        note(&mut sets, plan.entries[i], i);
+    for (i, entry) in plan.entries[..plan.width].iter().enumerate() {
+        note(&mut sets, *entry, i);
     }
     sets
 }

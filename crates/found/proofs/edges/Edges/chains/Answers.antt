@@ -1,0 +1,14 @@
+use Rattle.std.proofs.Common.{length, sym, ◌∙◌}
+use Rattle.words.specs.Sets.{has}
+use Rattle.found.proofs.Spreading.{chains_none, chains_all}
+use Rattle.found.proofs.edges.Edges.chains.Goals as goal
+
+pub returns-then-not-member : goal.returns-then-not-member
+returns-then-not-member c = λ R before.
+    let e = c.args.self.now in
+    chains_none (length e.nodes.now) 64 (has e.plan.now.marks e.role) R e.few (sym c.member.ensures ∙ c.if-not-member.true)
+
+pub returns : goal.returns
+returns c = λ R before.
+    let e = c.args.self.now in
+    chains_all (length e.nodes.now) (has e.plan.now.marks e.role) R c.close.new.rows (sym c.member.ensures ∙ c.if-not-member.false) (c.close.ensures R before)
