@@ -2,7 +2,7 @@
 // thing over and over.
 #![tactic(auto)]
 
-ghost use Rattle.std.specs.Prelude.{◌≡◌, [], min, length};
+ghost use Rattle.std.specs.Prelude.{◌≡◌, ℕ, [], min, length};
 ghost use Rattle.tableau.specs.Expansions.{expansions};
 ghost use Rattle.tableau.specs.Search.{explore};
 ghost use Rattle.plan.specs.Meanings.{table_in, box_in};
@@ -34,7 +34,9 @@ pub fn count_labels(plan: &Plan, seed: Label, limit: u64) -> u64
 {
     let mut count = 0;
     let mut c = 0;
-    while count < limit && let Some((_, after)) = next_label(plan, seed, c) {
+    while count < limit
+        && let Some((_, after)) = next_label(plan, seed, c)
+    {
         count += 1;
         c = after;
     }
@@ -54,30 +56,39 @@ pub fn count_seeds(plan: &Plan, label: Label) -> usize
     count
 }
 
+// A count that is taken so many times over and added up, as far as a word goes.
+fn over<F: Fn() -> u64>(times: u64, count: F) -> u64
+    requires { F.IsAlwaysCallable count }
+    ensures { (n : ℕ) → ((r : ℕ) → F.post count r → r ≡ n) → result ≡ added times n }
+{
+    let mut sum: u64 = 0;
+    for _ in 0..times {
+        sum = sum.saturating_add(count());
+    }
+    sum
+}
+
 // The same count, taken so many times over and added up, as far as a word goes.
 pub fn count_labels_over(plan: &Plan, seed: Label, limit: u64, times: u64) -> u64
     ensures { result ≡ added times (min limit (length (expansions (table_in plan.now) seed))) }
 {
-    let mut sum: u64 = 0;
-    for _ in 0..times {
-        sum = sum.saturating_add(count_labels(plan, seed, limit));
-    }
-    sum
+    over(times, || count_labels(plan, seed, limit))
 }
 
 // The same count, taken so many times over and added up, as far as a word goes.
 pub fn count_seeds_over(plan: &Plan, label: Label, times: u64) -> u64
     ensures { result ≡ added times (length (seeds_in plan.now label 0)) }
 {
-    let mut sum: u64 = 0;
-    for _ in 0..times {
-        sum = sum.saturating_add(count_seeds(plan, label) as u64);
-    }
-    sum
+    over(times, || count_seeds(plan, label) as u64)
 }
 
 // Whether a world comes of the seed in the lent nodes; searched for so many times, and at least once.
-pub fn has_world_over(plan: &Plan, nodes: &mut [Node], seed: Label, times: u64) -> Result<bool, NoRoom>
+pub fn has_world_over(
+    plan: &Plan,
+    nodes: &mut [Node],
+    seed: Label,
+    times: u64,
+) -> Result<bool, NoRoom>
     ensures { result ≡ told (explore (box_in plan.now) (table_in plan.now) (length nodes.old) (length nodes.old) [] seed) }
 {
     let mut answer = has_world(plan, nodes, seed);
@@ -96,11 +107,7 @@ pub extern "C" fn probe_width(book: &[u8]) -> usize {
 // Reads the book and makes its plan so many times; the widths of the plans added up.
 #[unsafe(no_mangle)]
 pub extern "C" fn probe_plan(book: &[u8], times: u64) -> u64 {
-    let mut sum: u64 = 0;
-    for _ in 0..times {
-        sum = sum.saturating_add(probe_width(book) as u64);
-    }
-    sum
+    over(times, || probe_width(book) as u64)
 }
 
 // Goes through the expansions of a seed, as far as the limit, so many times; how many there were in all.
@@ -117,8 +124,10 @@ pub extern "C" fn probe_seeds(book: &[u8], plus: u64, minus: u64, times: u64) ->
     let Some(plan) = plan_of(book) else {
         return 0;
     };
-    next_label(&plan, Label { plus, minus }, 0)
-        .map_or(0, |(label, _)| count_seeds_over(&plan, label, times))
+    next_label(&plan, Label { plus, minus }, 0).map_or(
+        0,
+        |(label, _)| count_seeds_over(&plan, label, times),
+    )
 }
 
 // Searches from a seed in so many nodes, so many times: 0 failed, 1 stands, 2 no room, 3 no search was made.
