@@ -11,29 +11,23 @@ mod tests {
     use model::{find, has_world};
     use plan::Plan;
     use roles::rows::Rows;
-    use search::{Answer, Node};
+    use search::{NoRoom, Node};
     use std::test::Fail;
     use tableau::Label;
 
     // The plan of the book in the bytes, under its closure rows.
-    fn plan_of(bytes: &[u8]) -> Option<Plan> {
-        let book = read(bytes).ok()?;
-        Plan::new(&book, &Rows::closed(&book)).ok()
+    fn plan_of(bytes: &[u8]) -> Result<Plan, Fail> {
+        let book = read(bytes).map_err(|_| Fail::new("not read"))?;
+        Plan::new(&book, &Rows::closed(&book)).map_err(|_| Fail::new("refused"))
     }
 
     // Book A: role 0 is transitive and below role 1; entry 5 has no individual in any world that keeps the book.
-    fn book_a() -> Option<Plan> {
-        plan_of(
-            b"\x01\x00\x00\x01\x02\x00\x00\x00\x06\x00\x00\x00\x06\x00\x01\x00\x03\x00\x00\x00\x07\x01\x03\x00\x04\x02\x04\x00\x00\x00\x02\x00\x02\x00\x01\x00\x04\x00\x06\x00\x1c\x00\x00\x00",
-        )
-    }
+    const A: &[u8] =
+        b"\x01\x00\x00\x01\x02\x00\x00\x00\x06\x00\x00\x00\x06\x00\x01\x00\x03\x00\x00\x00\x07\x01\x03\x00\x04\x02\x04\x00\x00\x00\x02\x00\x02\x00\x01\x00\x04\x00\x06\x00\x1c\x00\x00\x00";
 
     // Book B: all of entry 0 have a successor in it.
-    fn book_b() -> Option<Plan> {
-        plan_of(
-            b"\x00\x02\x00\x00\x00\x06\x00\x00\x00\x00\x01\x00\x00\x01\x00\x01\x00\x00\x00\x01\x00\x02\x00\x09\x00\x01\x00",
-        )
-    }
+    const B: &[u8] =
+        b"\x00\x02\x00\x00\x00\x06\x00\x00\x00\x00\x01\x00\x00\x01\x00\x01\x00\x00\x00\x01\x00\x02\x00\x09\x00\x01\x00";
 
     // + entry 5, + book (7) and + everywhere (8) of A.
     const FIVE_OF_A: Label = Label {
@@ -54,32 +48,25 @@ mod tests {
 
     #[test]
     fn five_of_a_fails_in_three_nodes_and_has_no_room_in_two(rt: HostRuntime) -> Result<(), Fail> {
-        let Some(plan) = book_a() else {
-            return Err(Fail::new("refused"));
-        };
+        let plan = plan_of(A)?;
         assert_eq!(rt; plan.width, 9);
         let mut three = [Node::BLANK; 3];
-        assert_eq!(rt; has_world(&plan, &mut three, FIVE_OF_A), Some(false));
+        assert_eq!(rt; has_world(&plan, &mut three, FIVE_OF_A), Ok(false));
         let mut two = [Node::BLANK; 2];
-        assert_eq!(rt; has_world(&plan, &mut two, FIVE_OF_A), None);
+        assert_eq!(rt; has_world(&plan, &mut two, FIVE_OF_A), Err(NoRoom));
         Ok(())
     }
 
     #[test]
     fn zero_of_b_stands_in_one_node_and_one_of_b_wants_two(rt: HostRuntime) -> Result<(), Fail> {
-        let Some(plan) = book_b() else {
-            return Err(Fail::new("refused"));
-        };
+        let plan = plan_of(B)?;
         assert_eq!(rt; plan.width, 5);
         let mut nodes = [Node::BLANK; 1];
-        match find(&plan, &mut nodes, ZERO_OF_B) {
-            Answer::Stands(m) => assert_eq!(rt; m, 1),
-            _ => return Err(Fail::new("does not stand")),
-        }
+        assert_eq!(rt; find(&plan, &mut nodes, ZERO_OF_B), Ok(Some(1)));
         assert_eq!(rt; nodes[0].label.plus, 31);
-        assert_eq!(rt; has_world(&plan, &mut nodes, ONE_OF_B), None);
+        assert_eq!(rt; has_world(&plan, &mut nodes, ONE_OF_B), Err(NoRoom));
         let mut two = [Node::BLANK; 2];
-        assert_eq!(rt; has_world(&plan, &mut two, ONE_OF_B), Some(true));
+        assert_eq!(rt; has_world(&plan, &mut two, ONE_OF_B), Ok(true));
         Ok(())
     }
 }

@@ -14,13 +14,8 @@ const B: &[u8; 27] =
 
 // A register on the book in the bytes, under its closure rows.
 fn opened(bytes: &[u8]) -> Result<Register, Fail> {
-    let Ok(book) = read(bytes) else {
-        return Err(Fail::new("not read"));
-    };
-    match Register::open(&book, &Rows::closed(&book)) {
-        Ok(register) => Ok(register),
-        Err(_) => Err(Fail::new("not opened")),
-    }
+    let book = read(bytes).map_err(|_| Fail::new("not read"))?;
+    Register::open(&book, &Rows::closed(&book)).map_err(|_| Fail::new("not opened"))
 }
 
 // The number and the detail of a refusal.

@@ -2,7 +2,7 @@
 // thing over and over.
 #![tactic(auto)]
 
-ghost use Rattle.std.specs.Prelude.{◌≡◌, [], min, length};
+ghost use Rattle.std.specs.Prelude.{◌≡◌, ℕ, [], min, length};
 ghost use Rattle.tableau.specs.Expansions.{expansions};
 ghost use Rattle.tableau.specs.Search.{explore};
 ghost use Rattle.plan.specs.Meanings.{table_in, box_in};
@@ -15,7 +15,7 @@ use expand::next_label;
 use model::{find, has_world};
 use plan::Plan;
 use roles::rows::Rows;
-use search::{Answer, Node};
+use search::{NoRoom, Node};
 use successor::next_seed;
 use tableau::Label;
 
@@ -34,14 +34,11 @@ pub fn count_labels(plan: &Plan, seed: Label, limit: u64) -> u64
 {
     let mut count = 0;
     let mut c = 0;
-    while count < limit {
-        match next_label(plan, seed, c) {
-            None => return count,
-            Some((_, after)) => {
-                count += 1;
-                c = after;
-            }
-        }
+    while count < limit
+        && let Some((_, after)) = next_label(plan, seed, c)
+    {
+        count += 1;
+        c = after;
     }
     count
 }
@@ -59,31 +56,39 @@ pub fn count_seeds(plan: &Plan, label: Label) -> usize
     count
 }
 
+// A count that is taken so many times over and added up, as far as a word goes.
+fn over<F: Fn() -> u64>(times: u64, count: F) -> u64
+    requires { F.IsAlwaysCallable count }
+    ensures { (n : ℕ) → ((r : ℕ) → F.post count r → r ≡ n) → result ≡ added times n }
+{
+    let mut sum: u64 = 0;
+    for _ in 0..times {
+        sum = sum.saturating_add(count());
+    }
+    sum
+}
+
 // The same count, taken so many times over and added up, as far as a word goes.
 pub fn count_labels_over(plan: &Plan, seed: Label, limit: u64, times: u64) -> u64
     ensures { result ≡ added times (min limit (length (expansions (table_in plan.now) seed))) }
 {
-    let mut sum: u64 = 0;
-    for _ in 0..times {
-        sum = sum.saturating_add(count_labels(plan, seed, limit));
-    }
-    sum
+    over(times, || count_labels(plan, seed, limit))
 }
 
 // The same count, taken so many times over and added up, as far as a word goes.
 pub fn count_seeds_over(plan: &Plan, label: Label, times: u64) -> u64
     ensures { result ≡ added times (length (seeds_in plan.now label 0)) }
 {
-    let mut sum: u64 = 0;
-    for _ in 0..times {
-        sum = sum.saturating_add(count_seeds(plan, label) as u64);
-    }
-    sum
+    over(times, || count_seeds(plan, label) as u64)
 }
 
-// Whether a world comes of the seed in the lent nodes, or `None` for want of room; searched for so many times, and at least
-// once.
-pub fn has_world_over(plan: &Plan, nodes: &mut [Node], seed: Label, times: u64) -> Option<bool>
+// Whether a world comes of the seed in the lent nodes; searched for so many times, and at least once.
+pub fn has_world_over(
+    plan: &Plan,
+    nodes: &mut [Node],
+    seed: Label,
+    times: u64,
+) -> Result<bool, NoRoom>
     ensures { result ≡ told (explore (box_in plan.now) (table_in plan.now) (length nodes.old) (length nodes.old) [] seed) }
 {
     let mut answer = has_world(plan, nodes, seed);
@@ -96,29 +101,21 @@ pub fn has_world_over(plan: &Plan, nodes: &mut [Node], seed: Label, times: u64) 
 // The number of working entries, 0 where the book has no plan.
 #[unsafe(no_mangle)]
 pub extern "C" fn probe_width(book: &[u8]) -> usize {
-    match plan_of(book) {
-        Some(plan) => plan.width,
-        None => 0,
-    }
+    plan_of(book).map_or(0, |plan| plan.width)
 }
 
 // Reads the book and makes its plan so many times; the widths of the plans added up.
 #[unsafe(no_mangle)]
 pub extern "C" fn probe_plan(book: &[u8], times: u64) -> u64 {
-    let mut sum: u64 = 0;
-    for _ in 0..times {
-        sum = sum.saturating_add(probe_width(book) as u64);
-    }
-    sum
+    over(times, || probe_width(book) as u64)
 }
 
 // Goes through the expansions of a seed, as far as the limit, so many times; how many there were in all.
 #[unsafe(no_mangle)]
 pub extern "C" fn probe_labels(book: &[u8], plus: u64, minus: u64, limit: u64, times: u64) -> u64 {
-    match plan_of(book) {
-        Some(plan) => count_labels_over(&plan, Label { plus, minus }, limit, times),
-        None => 0,
-    }
+    plan_of(book).map_or(0, |plan| {
+        count_labels_over(&plan, Label { plus, minus }, limit, times)
+    })
 }
 
 // Goes through the obligations of the first expansion of a seed so many times; how many there were in all.
@@ -127,10 +124,10 @@ pub extern "C" fn probe_seeds(book: &[u8], plus: u64, minus: u64, times: u64) ->
     let Some(plan) = plan_of(book) else {
         return 0;
     };
-    match next_label(&plan, Label { plus, minus }, 0) {
-        Some((label, _)) => count_seeds_over(&plan, label, times),
-        None => 0,
-    }
+    next_label(&plan, Label { plus, minus }, 0).map_or(
+        0,
+        |(label, _)| count_seeds_over(&plan, label, times),
+    )
 }
 
 // Searches from a seed in so many nodes, so many times: 0 failed, 1 stands, 2 no room, 3 no search was made.
@@ -149,10 +146,10 @@ pub extern "C" fn probe_search(
         return 3;
     };
     let mut lent = [Node::BLANK; NODES];
-    match has_world_over(&plan, &mut lent[0..nodes], Label { plus, minus }, times) {
-        Some(false) => 0,
-        Some(true) => 1,
-        None => 2,
+    match has_world_over(&plan, &mut lent[..nodes], Label { plus, minus }, times) {
+        Ok(false) => 0,
+        Ok(true) => 1,
+        Err(NoRoom) => 2,
     }
 }
 
@@ -164,8 +161,7 @@ pub extern "C" fn probe_standing(book: &[u8], plus: u64, minus: u64) -> usize {
     };
     let mut lent = [Node::BLANK; NODES];
     match find(&plan, &mut lent, Label { plus, minus }) {
-        Answer::Stands(m) => m,
-        Answer::Failed => 0,
-        Answer::Full => 0,
+        Ok(Some(m)) => m,
+        Ok(None) | Err(NoRoom) => 0,
     }
 }

@@ -1,7 +1,7 @@
 // The search for a world, in nodes that the caller lends: one loop, and no recursion.
 #![tactic(auto)]
 
-ghost use Rattle.std.specs.Prelude.{◌≡◌, ℕ, ◌<◌, ◌≤◌, [], length, replicate};
+ghost use Rattle.std.specs.Prelude.{◌≡◌, ℕ, ◌<◌, ◌≤◌, [], length, replicate, Some, codes};
 ghost use Rattle.search.specs.Games.{Game, Bounded, Leads, explore_by, told};
 ghost use Rattle.search.specs.Nodes.{blank, labels, LowestIn, NewestIn, Go, Fail, Fit, Lacks, Retreats, Says};
 
@@ -55,6 +55,8 @@ impl Node {
 pub struct NoRoom;
 
 impl fmt::Display for NoRoom {
+    ghost output = { λ _. Some (codes "the lent nodes do not suffice") };
+
     fn fmt<W: fmt::Write>(&self, f: &mut fmt::Formatter<W>) -> fmt::Result {
         write!(f, "the lent nodes do not suffice")
     }
