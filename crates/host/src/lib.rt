@@ -18,6 +18,7 @@ pub mod relation;
 pub use relation::Relation;
 
 // A refusal is answered by its number and so much.
+// Stays: a C host gets one number for a relation or a refusal, and no Result.
 const REFUSED: u32 = 100;
 
 // How the two entries of the book stand to each other in all finite worlds that keep it: 0 where no such world holds them
@@ -31,6 +32,6 @@ pub fn register_relation(book: &[u8], first: usize, second: usize) -> u32
 {
     match relation(book, first, second) {
         Ok(found) => found.number(),
-        Err(denial) => REFUSED + denial.report().number as u32,
+        Err(denial) => REFUSED + u32::from(denial.report().number),
     }
 }

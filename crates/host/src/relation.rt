@@ -3,12 +3,13 @@ ghost use Rattle.std.specs.Prelude.{◌≡◌};
 ghost use Rattle.host.specs.Relations.{relation_number, related_by};
 
 // How the first class stands to the second: the same, strictly below it, strictly above it, or neither below the other.
+// Stays: the numbers are the C interface.
 #[derive(Clone, Copy, PartialEq, Eq, Debug)]
 pub enum Relation {
-    Equal,
-    Below,
-    Above,
-    Apart,
+    Equal = 0,
+    Below = 1,
+    Above = 2,
+    Apart = 3,
 }
 
 impl Relation {
@@ -16,12 +17,7 @@ impl Relation {
     pub fn number(self) -> u32
         ensures { result ≡ relation_number self }
     {
-        match self {
-            Relation::Equal => 0,
-            Relation::Below => 1,
-            Relation::Above => 2,
-            Relation::Apart => 3,
-        }
+        self as u32
     }
 
     // The relation, where it is known whether all of the first class is in the second, and the reverse.

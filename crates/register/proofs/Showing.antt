@@ -1,17 +1,16 @@
 -- What showing comes to, from what is told of the searches and of the world that was found.
 use Rattle.std.proofs.Common.{◌≡◌, ℕ, zero, suc, ◌-◌, ◌<◌, Bool, true, false, cond, ◌&&◌, eqb, leb, List, [], length, get_or, take, IfOk, IfSome, Some, None, Option, Ok, Err, Result, sym, refl, ap, ◌∙◌, subst, arith}
 use lib.ListN.{length-map}
-use Rattle.std.proofs.lemmas.Bool.{and_parts, le-leb, eq-eqb, ne_eqb, cond-true, cond-false}
+use Rattle.std.proofs.lemmas.Bool.{and_parts, eq-eqb, ne_eqb, cond-true, cond-false}
 use Rattle.denial.specs.Denials.{granted, denied, reported}
 use Rattle.denial.specs.declared.Layer.TheVariants.{Register}
-use Rattle.denial.specs.declared.Report.{Report}
 use Rattle.meaning.specs.Worlds.{Interpretation, Sized}
 use Rattle.meaning.specs.Agreement.{Agree}
 use Rattle.sheet.specs.Sheets.{needed}
 use Rattle.tableau.specs.declared.Label.{Label}
 use Rattle.tableau.specs.Search.{Outcome, failed, full, stands, explore}
 use Rattle.tableau.specs.Working.{seed_of_not, seed_of_one}
-use Rattle.drawing.specs.Drawings.{drawn_on, drawing}
+use Rattle.drawing.specs.Drawings.{drawn_on}
 use Rattle.drawing.proofs.Sheets.{drawn_same}
 use Rattle.plan.specs.declared.Plan.{Plan}
 use Rattle.plan.specs.Meanings.{table_in, box_in}
@@ -21,7 +20,7 @@ use Rattle.search.specs.Nodes.{labels, label_of, Says}
 use Rattle.found.specs.Founds.{found_in, finding}
 use Rattle.model.proofs.Same.{find_some}
 use Rattle.runs.specs.Setups.{Setup, search_in, apart}
-use Rattle.runs.specs.Steps.{Reply, shown, refused, refusal, Showed, showed, showed_world, showed_second, showed_first, showing}
+use Rattle.runs.specs.Steps.{shown, refusal, Showed, showed, showed_world, showed_second, showed_first, showing}
 use Rattle.register.specs.Registers.{setup_in}
 use Rattle.register.specs.Showing.{seed_of_apart}
 use Rattle.register.proofs.Asking.{apart_not, apart_one}
@@ -50,21 +49,7 @@ some_node p n seed nodes (Ok (Some m)) h = go m (find_some p n seed (labels (tak
     go zero l = absurd (omega arith)
     go (suc m) l = omega arith
 
--- the found world was refused: there are more than 64 nodes
-pub found_refused : (nodes : List Node) (r : Report) → 0 < length nodes → denied r ≡ finding nodes → (leb (length nodes) 64 ≡ false) × (r ≡ reported 17 (length nodes) Register)
-found_refused nodes r some e = go (leb (length nodes) 64) refl
-  where
-    one : leb 1 (length nodes) ≡ true
-    one = le-leb 1 (length nodes) (omega arith)
-
-    go : (b : Bool) → leb (length nodes) 64 ≡ b → (leb (length nodes) 64 ≡ false) × (r ≡ reported 17 (length nodes) Register)
-    go true t = absurd (let f : denied r ≡ granted nodes = e ∙ ap (λ x. cond (x && leb (length nodes) 64) (granted nodes) (denied (reported 17 (length nodes) Register))) one ∙ ap (λ x. cond x (granted nodes) (denied (reported 17 (length nodes) Register))) t in
-        let z : ◌≡◌ {A = ℕ} 0 1 = cc in omega arith)
-    go false t =
-        let f : denied r ≡ denied (reported 17 (length nodes) Register) = e ∙ ap (λ x. cond (x && leb (length nodes) 64) (granted nodes) (denied (reported 17 (length nodes) Register))) one ∙ ap (λ x. cond x (granted nodes) (denied (reported 17 (length nodes) Register))) t in
-        (t, cc)
-
--- it was granted: there are at most 64
+-- the found world was granted: there are at most 64 nodes
 pub found_granted : (nodes xs : List Node) → granted xs ≡ finding nodes → leb (length nodes) 64 ≡ true
 found_granted nodes xs e = go (leb 1 (length nodes) && leb (length nodes) 64) refl
   where
@@ -73,81 +58,30 @@ found_granted nodes xs e = go (leb 1 (length nodes) && leb (length nodes) 64) re
     go false t = absurd (let f : granted xs ≡ denied (reported 17 (length nodes) Register) = e ∙ ap (λ x. cond x (granted nodes) (denied (reported 17 (length nodes) Register))) t in
         let z : ◌≡◌ {A = ℕ} 0 1 = cc in omega arith)
 
--- the sheet, by how many words there are
-drawn_short : (roles lent : ℕ) (W : Interpretation) (r : Report) → denied r ≡ drawing roles W lent
-    → (leb (needed roles W.size) lent ≡ false) × (r ≡ reported 11 (needed roles W.size) Register)
-drawn_short roles lent W r e = go (leb (needed roles W.size) lent) refl
+-- What is drawn of a world that agrees with the found one is what a world that was shown leaves on the sheet, which the words
+-- suffice for or not.
+pub drawn_sheet : (p : Plan) (e : ℕ) (nodes : List Node) (side : ℕ) (words : List ℕ) (W : Interpretation) → Sized W
+    → Agree (p.count - 1) W (found_in p (labels nodes)) → leb (length nodes) 64 ≡ true
+    → (sheet : List ℕ) → sheet ≡ drawn_on (p.count - 1) W words → sheet ≡ (showed_world (setup_in p e) words side (labels nodes)).sheet
+unfolding drawn_on
+drawn_sheet p e nodes side words W sized agree fits sheet drawn =
+    drawn
+    ∙ drawn_same (p.count - 1) W (found_in p (labels nodes)) sized agree words
+    ∙ by_words (leb (needed (p.count - 1) (length (labels nodes))) (length words)) refl
+    ∙ ap (λ (s : Showed). s.sheet) (sym (cond-true (leb (length (labels nodes)) 64) _ (showed (refusal 17 (length (labels nodes))) words) few))
   where
-    go : (b : Bool) → leb (needed roles W.size) lent ≡ b → (leb (needed roles W.size) lent ≡ false) × (r ≡ reported 11 (needed roles W.size) Register)
-    go true t = absurd (let f : denied r ≡ granted W.size = e ∙ ap (λ x. cond x (granted W.size) (denied (reported 11 (needed roles W.size) Register))) t in
-        let z : ◌≡◌ {A = ℕ} 0 1 = cc in omega arith)
-    go false t =
-        let f : denied r ≡ denied (reported 11 (needed roles W.size) Register) = e ∙ ap (λ x. cond x (granted W.size) (denied (reported 11 (needed roles W.size) Register))) t in (t, cc)
+    few : leb (length (labels nodes)) 64 ≡ true
+    few = subst (λ n. leb n 64 ≡ true) (sym (length-map nodes label_of)) fits
 
-drawn_whole : (roles lent m : ℕ) (W : Interpretation) → granted m ≡ drawing roles W lent → (leb (needed roles W.size) lent ≡ true) × (m ≡ W.size)
-drawn_whole roles lent m W e = go (leb (needed roles W.size) lent) refl
-  where
-    go : (b : Bool) → leb (needed roles W.size) lent ≡ b → (leb (needed roles W.size) lent ≡ true) × (m ≡ W.size)
-    go true t = let f : granted m ≡ granted W.size = e ∙ ap (λ x. cond x (granted W.size) (denied (reported 11 (needed roles W.size) Register))) t in (t, cc)
-    go false t = absurd (let f : granted m ≡ denied (reported 11 (needed roles W.size) Register) = e ∙ ap (λ x. cond x (granted W.size) (denied (reported 11 (needed roles W.size) Register))) t in
-        let z : ◌≡◌ {A = ℕ} 0 1 = cc in omega arith)
-
--- a reply and the words, with the definition's
-pub record Shows (s : Showed) (r : Reply) (sheet : List ℕ) : Type 0 where
-  pub reply : r ≡ s.reply
-  pub sheet_is : sheet ≡ s.sheet
-
-module _ (p : Plan) (e : ℕ) (nodes : List Node) (side : ℕ) (words : List ℕ) where
-  abbrev ls : List Label
-  ls = labels nodes
-
-  many : length nodes ≡ length (labels nodes)
-  many = sym (length-map nodes label_of)
-
-  abbrev shows : Showed
-  shows = showed_world (setup_in p e) words side (labels nodes)
-
-  -- more than 64 individuals
-  pub too_many : leb (length nodes) 64 ≡ false → Shows (showed_world (setup_in p e) words side (labels nodes)) (refusal 17 (length nodes)) words
-  too_many t =
-      let f : leb (length (labels nodes)) 64 ≡ false = subst (λ n. leb n 64 ≡ false) many t in
-      let s = sym (cond-false (leb (length (labels nodes)) 64) _ (showed (refusal 17 (length (labels nodes))) words) f) in
-      record { reply = ap (refusal 17) many ∙ ap (λ x. x.reply) s; sheet_is = ap (λ x. x.sheet) s }
-
-  module _ (W : Interpretation) (sized : Sized W) (agree : Agree (p.count - 1) W (found_in p (labels nodes))) (fits : leb (length nodes) 64 ≡ true) where
-    as_many : W.size ≡ length (labels nodes)
-    as_many = agree.size
-
-    -- at most 64: the words decide
     by_words : (b : Bool) → leb (needed (p.count - 1) (length (labels nodes))) (length words) ≡ b
-        → cond b (showed (shown (length (labels nodes)) side) (drawn_on (p.count - 1) (found_in p (labels nodes)) words)) (showed (refusal 11 (needed (p.count - 1) (length (labels nodes)))) words)
-        ≡ showed_world (setup_in p e) words side (labels nodes)
-    by_words b t =
-        sym (cond-true (leb (length (labels nodes)) 64) _ (showed (refusal 17 (length (labels nodes))) words) (subst (λ n. leb n 64 ≡ true) many fits)
-        ∙ ap (λ x. cond x (showed (shown (length (labels nodes)) side) (drawn_on (p.count - 1) (found_in p (labels nodes)) words)) (showed (refusal 11 (needed (p.count - 1) (length (labels nodes)))) words)) t)
-
-    -- they are too few
-    pub too_short : (r : Report) (sheet : List ℕ) → denied r ≡ drawing (p.count - 1) W (length words) → sheet ≡ drawn_on (p.count - 1) W words
-        → Shows (showed_world (setup_in p e) words side (labels nodes)) (refused r) sheet
-    unfolding drawn_on
-    too_short r sheet d w =
-        let f = drawn_short (p.count - 1) (length words) W r d in
-        let s = by_words false (subst (λ n. leb (needed (p.count - 1) n) (length words) ≡ false) as_many f.0) in
-        record {
-          reply = ap refused f.1 ∙ ap (λ n. refusal 11 (needed (p.count - 1) n)) as_many ∙ ap (λ x. x.reply) s;
-          sheet_is = w ∙ cond-false (leb (needed (p.count - 1) W.size) (length words)) _ words f.0 ∙ ap (λ x. x.sheet) s;
-        }
-
-    -- they suffice
-    pub written_down : (m : ℕ) (sheet : List ℕ) → granted m ≡ drawing (p.count - 1) W (length words) → sheet ≡ drawn_on (p.count - 1) W words
-        → Shows (showed_world (setup_in p e) words side (labels nodes)) (shown m side) sheet
-    written_down m sheet d w =
-        let f = drawn_whole (p.count - 1) (length words) m W d in
-        let s = by_words true (subst (λ n. leb (needed (p.count - 1) n) (length words) ≡ true) as_many f.0) in
-        record {
-          reply = ap (λ n. shown n side) (f.1 ∙ as_many) ∙ ap (λ x. x.reply) s;
-          sheet_is = w ∙ drawn_same (p.count - 1) W (found_in p (labels nodes)) sized agree words ∙ ap (λ x. x.sheet) s;
-        }
+        → drawn_on (p.count - 1) (found_in p (labels nodes)) words
+        ≡ (cond (leb (needed (p.count - 1) (length (labels nodes))) (length words))
+        (showed (shown (length (labels nodes)) side) (drawn_on (p.count - 1) (found_in p (labels nodes)) words))
+        (showed (refusal 11 (needed (p.count - 1) (length (labels nodes)))) words)).sheet
+    by_words true t = ap (λ (s : Showed). s.sheet) (sym (cond-true (leb (needed (p.count - 1) (length (labels nodes))) (length words)) _ _ t))
+    by_words false t =
+        cond-false (leb (needed (p.count - 1) (length (labels nodes))) (length words)) _ words t
+        ∙ ap (λ (s : Showed). s.sheet) (sym (cond-false (leb (needed (p.count - 1) (length (labels nodes))) (length words)) _ _ t))
 
 -- the two searches, one after the other, from what each of them says
 module _ (S : Setup) (cs : List ℕ) (a b n : ℕ) (words : List ℕ) where

@@ -27,10 +27,12 @@ impl Register {
         ensures right { IfOk result (λ g. (run : List Event) → Run (setup_of g) (classes_of g) run → Right (role_box (H.Order.size hierarchy.now) (H.Order.under hierarchy.now) (H.Hierarchy.passing hierarchy.now)) (says (view book.now)) run) }
     {
         let plan = Plan::new(book, hierarchy)?;
+        let entries = book.entry_count();
+        let classes = ArrayVec::new();
         Ok(Register {
             plan,
-            entries: book.entry_count(),
-            classes: ArrayVec::new(),
+            entries,
+            classes,
         })
     }
 }

@@ -1,5 +1,4 @@
 use Rattle.std.proofs.Common.{◌≤◌, ap, arith}
-use Rattle.std.proofs.lemmas.List.{length-take-le}
 use Rattle.register.specs.Registers.{setup_of, classes_of}
 use Rattle.listing.proofs.Numbers.{class_small}
 use Rattle.listing.proofs.add_line.Goals as goal
@@ -7,7 +6,6 @@ use Rattle.listing.proofs.add_line.Goals as goal
 pub overflow_cast-class : goal.overflow_cast-class
 overflow_cast-class c =
     let g = c.args.register.now in
-    let few = length-take-le g.count g.classes (omega (arith, g.few, g.long)) in
     let small : c.in-Ok.class ≤ 24 =
-    class_small (setup_of g) (classes_of g) c.args.entry _ c.in-Ok.class (omega (arith, g.few)) (ap (λ d. d.reply) c.in-Ok.ensures.done) in
+    class_small (setup_of g) (classes_of g) c.args.entry _ c.in-Ok.class g.few (ap (λ d. d.reply) c.in-Ok.ensures.done) in
     omega arith
