@@ -1,6 +1,10 @@
 // The lines of a script, as calls.
 #![tactic(auto)]
 
+ghost use Rattle.std.specs.Prelude.{IfOk};
+ghost use Rattle.std.specs.Str.{trim};
+ghost use Rattle.grammar.specs.Spelling.{Spells};
+
 mod items;
 
 use items::Items;
@@ -79,6 +83,8 @@ impl From<UnknownHierarchy> for NoCall {
 // The call on a line. White space at the ends of the line does not count.
 impl<'a> TryFrom<&'a str> for Call<'a> {
     type Error = NoCall;
+
+    ghost try_from_gives = { λ line r. IfOk r (λ call. Spells (trim line.now) call) };
 
     fn try_from(line: &'a str) -> Result<Call<'a>, NoCall> {
         let mut items = Items::new(line);

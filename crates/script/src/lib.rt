@@ -13,11 +13,9 @@ use std::io::{BufRead, BufReader};
 // Answers the script on standard input, each line in its turn.
 pub fn run(rt: &HostRuntime) -> io::Result<()> {
     let mut session = Session::new(rt.alloc());
-    let mut number = 0usize;
-    for line in BufReader::new(rt.alloc(), rt.stdin())?.split(rt.alloc(), b'\n') {
-        let line = line?;
-        number = number.saturating_add(1);
-        let answer = session.answer(number, line.as_slice())?;
+    let lines = BufReader::new(rt.alloc(), rt.stdin())?.split(rt.alloc(), b'\n');
+    for (k, line) in lines.enumerate() {
+        let answer = session.answer(k.saturating_add(1), line?.as_slice())?;
         rt.print(answer.as_str())?;
     }
     Ok(())

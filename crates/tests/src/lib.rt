@@ -5,7 +5,7 @@
 mod tests {
     use book::Book;
     use book::read::read;
-    use denial::{Layer, Report};
+    use denial::{Layer, RecordDenial, Report};
     use meaning::{Hierarchy, Order};
     use roles::rows::Rows;
     use roles::told::Told;
@@ -14,24 +14,22 @@ mod tests {
     use std::test::Fail;
 
     // Two roles, 0 transitive and below 1; the entries everything, some of everything by role 0, and the same by role 1.
-    fn two_roles() -> Option<Book> {
+    fn two_roles() -> Result<Book, RecordDenial> {
         read(
             b"\x01\x00\x00\x01\x01\x00\x00\x00\x06\x00\x00\x00\x06\x01\x00\x00\x00\x00\x02\x00\x02\x00\x01\x00\x04\x00\x03\x00\x10\x00\x00\x00",
-        ).ok()
+        )
     }
 
     // One plain role, and the entry everything.
-    fn one_role() -> Option<Book> {
+    fn one_role() -> Result<Book, RecordDenial> {
         read(
             b"\x00\x01\x00\x00\x00\x00\x00\x01\x00\x01\x00\x00\x00\x01\x00\x01\x00\x05\x00\x00\x00",
-        ).ok()
+        )
     }
 
     #[test]
     fn copied_rows_answer_the_same(rt: HostRuntime) -> Result<(), Fail> {
-        let Some(book) = two_roles() else {
-            return Err(Fail::new("refused"));
-        };
+        let book = two_roles()?;
         let told = Told::new(&book);
         let rows = Rows::copied(&told);
         assert_eq!(rt; rows.count(), 2);
@@ -47,16 +45,10 @@ mod tests {
 
     #[test]
     fn universal_over_universal(rt: HostRuntime) -> Result<(), Fail> {
-        let Some(book) = two_roles() else {
-            return Err(Fail::new("refused"));
-        };
+        let book = two_roles()?;
         let told = Told::new(&book);
-        let Ok(one) = Universal::over(&told) else {
-            return Err(Fail::new("full"));
-        };
-        let Ok(two) = Universal::over(&one) else {
-            return Err(Fail::new("full"));
-        };
+        let one = Universal::over(&told)?;
+        let two = Universal::over(&one)?;
         assert_eq!(rt; two.count(), 4);
         assert!(rt; two.below(2, 3) && two.below(0, 3) && two.below(1, 2));
         assert!(rt; two.below(3, 3) && !two.below(3, 2) && !two.below(2, 1));
@@ -66,49 +58,33 @@ mod tests {
 
     #[test]
     fn keeps_wants_as_many_roles(rt: HostRuntime) -> Result<(), Fail> {
-        let Some(book) = two_roles() else {
-            return Err(Fail::new("refused"));
-        };
-        let Some(other) = one_role() else {
-            return Err(Fail::new("refused"));
-        };
+        let book = two_roles()?;
+        let other = one_role()?;
         let mut words = [0u64; 67];
         words[0] = 1;
-        let Ok(world) = Sheet::new(&words, &book) else {
-            return Err(Fail::new("no sheet"));
-        };
-        match keeps(&world, &Told::new(&other), &book) {
-            Ok(_) => Err(Fail::new("answered")),
-            Err(denial) => {
-                assert_eq!(rt;
-                    denial.report(),
-                    Report {
-                        number: 12,
-                        detail: 1,
-                        layer: Layer::Register,
-                    }
-                );
-                Ok(())
-            },
-        }
+        let world = Sheet::new(&words, &book)?;
+        let answer = keeps(&world, &Told::new(&other), &book).map_err(|denial| denial.report());
+        assert_eq!(rt;
+            answer,
+            Err(Report {
+                number: 12,
+                detail: 1,
+                layer: Layer::Register,
+            })
+        );
+        Ok(())
     }
 
     #[test]
     fn judges_on_a_sheet_for_another_book(rt: HostRuntime) -> Result<(), Fail> {
-        let Some(book) = two_roles() else {
-            return Err(Fail::new("refused"));
-        };
-        let Some(other) = one_role() else {
-            return Err(Fail::new("refused"));
-        };
+        let book = two_roles()?;
+        let other = one_role()?;
         let mut words = [0u64; 66];
         words[0] = 1;
         words[65] = 1;
-        let Ok(world) = Sheet::new(&words, &other) else {
-            return Err(Fail::new("no sheet"));
-        };
-        assert_eq!(rt; judge(&world, &book, 1).ok().ok_or(0u8)?, 1);
-        assert_eq!(rt; judge(&world, &book, 2).ok().ok_or(0u8)?, 0);
+        let world = Sheet::new(&words, &other)?;
+        assert_eq!(rt; judge(&world, &book, 1)?, 1);
+        assert_eq!(rt; judge(&world, &book, 2)?, 0);
         Ok(())
     }
 }
