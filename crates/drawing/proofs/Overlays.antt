@@ -1,8 +1,10 @@
 -- Words that are written over one after another with the words of a world.
-use Rattle.std.proofs.Common.{◌≡◌, ℕ, zero, suc, ◌+◌, ◌-◌, ◌*◌, ◌/◌, ◌%◌, ◌^◌, ◌<◌, ◌≤◌, eqb, ltb, List, [], ◌∷◌, ◌++◌, length, get_or, drop, set, sym, refl, ap, ◌∙◌, ⊎_elim, add-one, arith}
-use Rattle.std.proofs.lemmas.Nat.{div-mul-add, mod-mul-add}
-use Rattle.std.proofs.lemmas.List.{append_assoc, length_push, length-append, length-drop, get_or_push, get_or_append_left, drop_more, drop-drop, drop_at, set_at}
-use Rattle.std.proofs.lemmas.Bool.{cases_eq, lt-ltb, le-ltb, ne_eqb, eqb-true, cond-true, cond-false, cond_both}
+use Rattle.std.proofs.Common.{◌≡◌, ℕ, zero, suc, ◌+◌, ◌-◌, ◌*◌, ◌/◌, ◌%◌, ◌^◌, ◌<◌, ◌≤◌, eqb, ltb, List, [], ◌∷◌, ◌++◌, length, get_or, take, drop, set, sym, refl, ap, ◌∙◌, ⊎_elim, add-one, add-mul, ◌≢◌, length-set, get_or-set_same, get_or-set_other, arith}
+use Rattle.std.proofs.lemmas.Nat.{div-mul-add, mod-mul-add, mul-le}
+use Rattle.std.proofs.lemmas.List.{append_assoc, length_push, length-append, length-drop, get_or_push, get_or_append_left, get_or-append_right, drop_more, take_at, drop-drop, drop_at, set_at}
+use Rattle.std.proofs.lemmas.Bool.{cases_eq, cases_lt, lt-ltb, le-ltb, ne_eqb, eqb-true, cond-true, cond-false, cond_both}
+use Rattle.std.proofs.lemmas.Grind.{same_number_lists}
+use borrow.Rule.Slice.PartMut.{put_mid}
 use Rattle.words.specs.Sets.{set_of}
 use Rattle.meaning.specs.Worlds.{Interpretation}
 use Rattle.sheet.proofs.Sets.{set_fits}
@@ -80,42 +82,60 @@ overlaid_more W k n w words now l next e f =
 pub overlaid_first : (W : Interpretation) (m : ℕ) (words : List ℕ) → 0 < length words → m ≡ W.size → set words 0 m ≡ overlaid W 1 words
 overlaid_first W m words l e = overlaid_more W 0 1 m words words l refl (overlaid_none W words) (e ∙ sym (word_size W))
 
--- a name's bearers, written after the names before it
-pub overlaid_name : (W : Interpretation) (n w : ℕ) (words now : List ℕ) → 1 + n < length words → n < 64 → now ≡ overlaid W (1 + n) words
-    → w ≡ set_of W.size (λ x. W.bears x n) → set now (1 + n) w ≡ overlaid W (1 + (n + 1)) words
-overlaid_name W n w words now l few e f =
-    overlaid_more W (1 + n) (1 + (n + 1)) w words now l (omega arith) e (f ∙ sym (word_name W n few))
+-- a part of so many words, the first x of which are the words of the world from the place `at` on
+pub record Written (W : Interpretation) (at many x : ℕ) (part : List ℕ) : Type 0 where
+  pub long : length part ≡ many
+  pub known : (k : ℕ) → k < x → get_or part k 0 ≡ word_at W (at + k)
 
--- a row, written after those before it
-pub overlaid_row : (W : Interpretation) (m r x w : ℕ) (words now : List ℕ) → m ≡ W.size → 65 + r * m + x < length words → x < m
-    → now ≡ overlaid W (65 + r * m + x) words → w ≡ set_of W.size (λ y. W.joins r x y)
-    → set now (65 + r * m + x) w ≡ overlaid W (65 + r * m + (x + 1)) words
-overlaid_row W m r x w words now same l inside e f =
-    overlaid_more W (65 + r * m + x) (65 + r * m + (x + 1)) w words now l (omega arith) e
-    (f ∙ sym (ap (λ n. word_at W (65 + r * n + x)) same ∙ word_row W r x (omega arith)))
+-- the next word of the part
+pub written_more : (W : Interpretation) (at many x w : ℕ) (part : List ℕ) → x < many → Written W at many x part → w ≡ word_at W (at + x)
+    → Written W at many (x + 1) (set part x w)
+written_more W at many x w part l f e =
+    let room : x < length part = omega (arith, f.long) in
+    record {
+      long = length-set part x w ∙ f.long;
+      known = λ k u. ⊎_elim
+          (λ (same : k ≡ x). rw same (rw get_or-set_same e))
+          (λ (other : k ≢ x). rw get_or-set_other (f.known k (omega arith)))
+          (cases_eq k x);
+    }
 
--- what is past the written words stays as it was
-rest_is : (W : Interpretation) (j k : ℕ) (words now : List ℕ) → j ≤ k → now ≡ overlaid W j words → drop k now ≡ drop k words
-rest_is W j k words now l e =
-    let more : j + (k - j) ≡ k = omega arith in
-    ap (λ n. drop n now) (sym more) ∙ sym (drop-drop (k - j) j now)
-    ∙ ap (drop (k - j)) (ap (drop j) e ∙ drop_at (words_of W j) (drop j words) j (length_words W j))
-    ∙ drop-drop (k - j) j words ∙ ap (λ n. drop n words) more
+-- the words before a place, and a whole part from it on
+joined : (W : Interpretation) (at many : ℕ) (part : List ℕ) → Written W at many many part → words_of W at ++ part ≡ words_of W (at + many)
+joined W at many part f =
+    same_number_lists (words_of W at ++ part) (words_of W (at + many)) (omega (arith, long, length_words W (at + many))) go
+  where
+    long : length (words_of W at ++ part) ≡ at + many
+    long = length-append (words_of W at) part ∙ omega (arith, length_words W at, f.long)
+
+    go : (k : ℕ) → k < length (words_of W at ++ part) → get_or (words_of W at ++ part) k 0 ≡ get_or (words_of W (at + many)) k 0
+    go k l = ⊎_elim
+        (λ lt. get_or_append_left (words_of W at) part 0 k (omega (arith, length_words W at)) ∙ word_is W at k lt ∙ sym (word_is W (at + many) k (omega (arith, long))))
+        (λ ge.
+        let back : at + (k - at) ≡ k = omega arith in
+        get_or-append_right (words_of W at) part at k 0 (length_words W at) ge ∙ f.known (k - at) (omega (arith, long))
+        ∙ ap (word_at W) back ∙ sym (word_is W (at + many) k (omega (arith, long))))
+        (cases_lt k at)
+
+-- a part written after the words before it
+pub overlaid_part : (W : Interpretation) (at many : ℕ) (words now part : List ℕ) → now ≡ overlaid W at words → Written W at many many part
+    → put_mid at many now part ≡ overlaid W (at + many) words
+overlaid_part W at many words now part e f =
+    let before : take at now ≡ words_of W at = ap (take at) e ∙ take_at (words_of W at) (drop at words) at (length_words W at) in
+    let after : drop at now ≡ drop at words = ap (drop at) e ∙ drop_at (words_of W at) (drop at words) at (length_words W at) in
+    ap (λ xs. xs ++ (part ++ drop many (drop at now))) before
+    ∙ ap (λ xs. words_of W at ++ (part ++ drop many xs)) after
+    ∙ ap (λ xs. words_of W at ++ (part ++ xs)) (drop-drop many at words)
+    ∙ sym (append_assoc (words_of W at) part (drop (at + many) words))
+    ∙ ap (λ xs. xs ++ drop (at + many) words) (joined W at many part f)
 
 -- the same, where the number of words written over has another form
-overlaid_at : (W : Interpretation) (k n : ℕ) (words now : List ℕ) → k ≡ n → now ≡ overlaid W k words → now ≡ overlaid W n words
+pub overlaid_at : (W : Interpretation) (k n : ℕ) (words now : List ℕ) → k ≡ n → now ≡ overlaid W k words → now ≡ overlaid W n words
 overlaid_at W k n words now same e = e ∙ ap (λ i. overlaid W i words) same
 
--- words written over after others are as if written over at once
-pub overlaid_twice : (W : Interpretation) (j k n : ℕ) (words now then : List ℕ) → j ≤ k → k ≡ n → now ≡ overlaid W j words
-    → then ≡ overlaid W k now → then ≡ overlaid W n words
-overlaid_twice W j k n words now then l same e f =
-    overlaid_at W k n words then same (f ∙ ap (λ ws. words_of W k ++ ws) (rest_is W j k words now l e))
-
--- words written over once stay so when written over again
-pub overlaid_again : (W : Interpretation) (k n : ℕ) (words now : List ℕ) → k ≡ n → now ≡ overlaid W k words → now ≡ overlaid W n now
-overlaid_again W k n words now same e =
-    overlaid_at W k n now now same (e ∙ ap (λ ws. words_of W k ++ ws) (sym (rest_is W k k words now (omega arith) e)))
+-- the rows of a role are within those of so many
+pub rows_within : (r m roles : ℕ) → r < roles → r * m + m ≤ roles * m
+rows_within r m roles l = omega (arith, mul-le (r + 1) m roles m (omega arith) (omega arith), add-mul r 1 m)
 
 -- as many words as there were
 pub length_overlaid : (W : Interpretation) (k : ℕ) (words : List ℕ) → k ≤ length words → length (overlaid W k words) ≡ length words

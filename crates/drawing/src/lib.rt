@@ -8,11 +8,7 @@ ghost use Rattle.drawing.specs.Drawings.{drawn_on, drawing, Drawn, DrawingIsRigh
 use denial::Denial;
 use meaning::World;
 use sheet::judgement::{bearers, successors};
-
-const NAMES: usize = 64;
-
-// The place of the first row of the first role: after word 0 and the names.
-const ROWS: usize = 65;
+use sheet::sheet::ROWS;
 
 // Writes the world on the words, with so many roles, and answers how many individuals it has. Refused where the words are
 // too few: then they stay as they were. Words past those needed stay as they were.
@@ -28,12 +24,13 @@ pub fn draw<W: World>(world: &W, roles: u8, words: &mut [u64]) -> Result<usize, 
         return Err(Denial::ShortSheet(needed));
     }
     words[0] = m as u64;
-    'names: for n in 0..NAMES {
-        words[1 + n] = bearers(world, n);
+    'names: for (n, word) in words[1..ROWS].iter_mut().enumerate() {
+        *word = bearers(world, n);
     }
     'roles: for r in 0..roles {
-        'individuals: for x in 0..m {
-            words[ROWS + r * m + x] = successors(world, r, x);
+        let first = ROWS + r * m;
+        'individuals: for (x, row) in words[first..first + m].iter_mut().enumerate() {
+            *row = successors(world, r, x);
         }
     }
     Ok(m)

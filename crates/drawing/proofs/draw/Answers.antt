@@ -1,9 +1,9 @@
-use Rattle.std.proofs.Common.{◌≡◌, ◌+◌, ◌*◌, ◌<◌, length, sym, refl, ap, ◌∙◌, subst, add-mul, arith}
-use Rattle.std.proofs.lemmas.Nat.{mul-add-lt}
-use Rattle.std.proofs.lemmas.List.{length-set}
+use Rattle.std.proofs.Common.{◌≡◌, ◌+◌, ◌-◌, ◌*◌, ◌<◌, length, drop, sym, ap, ◌∙◌, subst, add-mul, arith, rules}
+use Rattle.std.proofs.lemmas.List.{length-drop, length-take}
+use borrow.Rule.Slice.PartMut.{put_mid}
 use Rattle.sheet.specs.Sheets.{needed}
-use Rattle.drawing.specs.Drawings.{drawn_on, Drawn}
-use Rattle.drawing.proofs.Overlays.{overlaid, overlaid_first, overlaid_name, overlaid_row, overlaid_twice, overlaid_again}
+use Rattle.drawing.specs.Drawings.{word_at, drawn_on, Drawn}
+use Rattle.drawing.proofs.Overlays.{overlaid, Written, written_more, overlaid_first, overlaid_part, overlaid_at, rows_within, word_name, word_row, length_overlaid}
 use Rattle.drawing.proofs.Sheets.{drawn_is, drawn_not, suffices, falls_short, granted_is, denied_is, drawing_right}
 use Rattle.drawing.proofs.draw.Goals as goal
 
@@ -20,48 +20,66 @@ returns-then-words-needed g c =
       right = tt;
     }
 
--- after word 0
+-- before the names
 pub names-init : goal.names-init
-names-init g c =
-    overlaid_again _ 1 _ c.args.words.now _ refl (overlaid_first _ _ _ (omega arith) c.individuals-m.ensures)
+names-init g c = record { long = search rules; known = λ k l. absurd (omega arith) }
 
 -- the next name
 pub names-preserved : goal.names-preserved
 names-preserved g c =
-    overlaid_name _ c.names.n _ _ _ (omega (arith, length-set c.args.words.now 0 c.individuals-m.result)) (omega arith)
-    c.names.invariant c.bearers.ensures
+    let W = g.W.World.interpretation c.args.world.now in
+    let n = c.names.n in
+    let few : n < 64 = omega (arith, c.names-test.true, c.names.auto.word-items, c.names.invariant.long) in
+    written_more W 1 64 n _ c.names.word-items few c.names.invariant (c.bearers.ensures ∙ sym (word_name W n few))
 
 -- after the names
 pub roles-init : goal.roles-init
 roles-init g c =
-    overlaid_again _ (1 + c.names.n) _ _ _ (omega arith) c.names.invariant
+    let W = g.W.World.interpretation c.args.world.now in
+    let m = c.individuals-m.result in
+    let words = c.args.words.now in
+    let i = c.names.invariant in
+    let all : Written W 1 64 64 c.names.word-items =
+    record { long = i.long; known = λ k l. i.known k (omega (arith, c.names-test.false, c.names.auto.word-items, i.long)) } in
+    overlaid_at W 65 (65 + 0 * m) words _ (omega arith)
+    (overlaid_part W 1 64 words _ c.names.word-items (overlaid_first W m words (omega arith) c.individuals-m.ensures) all)
 
--- at the first individual of a role
+-- before the rows of a role, which are within the words
 pub individuals-init : goal.individuals-init
 individuals-init g c =
-    overlaid_again _ (65 + c.roles.r * c.individuals-m.result) _ _ _ (omega arith) c.roles.invariant
-
--- each row is within the words
-pub bounds-words-r : goal.bounds-words-r
-bounds-words-r g c =
-    omega (
-      arith,
-      mul-add-lt c.roles.r c.individuals-m.result c.individuals.x c.args.roles c.roles-test.true c.individuals-test.true,
-      length-set c.args.words.now 0 c.individuals-m.result,
-    )
+    let m = c.individuals-m.result in
+    let at = 65 + c.roles.r * m in
+    let room = rows_within c.roles.r m c.args.roles c.roles-test.true in
+    let whole = length_overlaid (g.W.World.interpretation c.args.world.now) at c.args.words.now (omega (arith, room)) in
+    record {
+      long = omega (arith, room, whole, ap length c.roles.invariant, length-drop at c.roles.words, length-take (at + m - at) (drop at c.roles.words));
+      known = λ k l. absurd (omega arith);
+    }
 
 -- the next row
 pub individuals-preserved : goal.individuals-preserved
 individuals-preserved g c =
-    overlaid_row _ c.individuals-m.result c.roles.r c.individuals.x _ c.roles.words _ c.individuals-m.ensures
-    (subst (λ n. 65 + c.roles.r * c.individuals-m.result + c.individuals.x < n) c.individuals.auto.words (bounds-words-r g c))
-    c.individuals-test.true c.individuals.invariant c.successors.ensures
+    let W = g.W.World.interpretation c.args.world.now in
+    let m = c.individuals-m.result in
+    let r = c.roles.r in
+    let x = c.individuals.x in
+    let few : x < m = omega (arith, c.individuals-test.true, c.individuals.auto.row-items, c.individuals.invariant.long) in
+    written_more W (65 + r * m) m x _ c.individuals.row-items few c.individuals.invariant
+    (c.successors.ensures ∙ sym (ap (λ n. word_at W (65 + r * n + x)) c.individuals-m.ensures ∙ word_row W r x (omega (arith, c.individuals-m.ensures))))
 
 -- after the rows of a role
 pub roles-preserved : goal.roles-preserved
 roles-preserved g c =
-    overlaid_twice _ (65 + c.roles.r * c.individuals-m.result) (65 + c.roles.r * c.individuals-m.result + c.individuals.x) _ _ _ _
-    (omega arith) (omega (arith, add-mul c.roles.r 1 c.individuals-m.result)) c.roles.invariant c.individuals.invariant
+    let W = g.W.World.interpretation c.args.world.now in
+    let m = c.individuals-m.result in
+    let r = c.roles.r in
+    let at = 65 + r * m in
+    let i = c.individuals.invariant in
+    let all : Written W at m m c.individuals.row-items =
+    record { long = i.long; known = λ k l. i.known k (omega (arith, c.individuals-test.false, c.individuals.auto.row-items, i.long)) } in
+    let size : at + m - at ≡ m = omega arith in
+    overlaid_at W (at + m) (65 + (r + 1) * m) c.args.words.now _ (omega (arith, add-mul r 1 m))
+    (ap (λ n. put_mid at n c.roles.words c.individuals.row-items) size ∙ overlaid_part W at m c.args.words.now c.roles.words c.individuals.row-items c.roles.invariant all)
 
 -- all that is needed is written
 pub returns : goal.returns
@@ -73,11 +91,8 @@ returns g c =
     let size = c.individuals-m.ensures in
     let enough = suffices roles m (length words) W size c.if-words-needed.false in
     let end : c.roles.r ≡ roles = omega arith in
-    let named : c.names.words ≡ overlaid W 65 words =
-    overlaid_twice W 1 (1 + c.names.n) 65 words _ _ (omega arith) (omega arith) (overlaid_first W m words (omega arith) size) c.names.invariant in
     let whole : c.roles.words ≡ overlaid W (needed roles W.size) words =
-    overlaid_twice W 65 (65 + c.roles.r * m) (needed roles W.size) words _ _ (omega arith)
-    (ap (λ r. needed r m) end ∙ ap (needed roles) size) named c.roles.invariant in
+    overlaid_at W (65 + c.roles.r * m) (needed roles W.size) words _ (ap (λ r. needed r m) end ∙ ap (needed roles) size) c.roles.invariant in
     let drawn : c.roles.words ≡ drawn_on roles W words = whole ∙ sym (drawn_is roles W words enough) in
     record {
       value = granted_is roles m (length words) W size c.if-words-needed.false;
