@@ -1,6 +1,6 @@
 -- What the taking of an entry makes of a label, by the signs that the label has it with.
 use Rattle.std.proofs.Common.{◌≡◌, ℕ, ◌≤◌, true, false, cond, ◌∙◌, arith}
-use Rattle.std.proofs.lemmas.Bool.{cond-true, cond-false}
+use Rattle.std.proofs.lemmas.Bool.{cond-false}
 use Rattle.meaning.specs.declared.Concept.TheVariants.{Nothing, Everything, Name, Not, And, Or, Restriction}
 use Rattle.tableau.specs.declared.Label.{Label}
 use Rattle.tableau.specs.declared.Entry.{Entry}
@@ -20,16 +20,6 @@ lower_more i j h (Plain (Or a b)) low = (omega arith, omega arith)
 lower_more i j h (Plain (Restriction q r a)) low = omega arith
 lower_more i j h (Inclusion c d) low = (omega arith, omega arith)
 lower_more i j h (Inclusions lo n) low = omega arith
-
-pub taken_plus : (e : Entry) (k : ℕ) (l : Label) → in_label l true k ≡ true → taken e k l ≡ grown e true l
-unfolding taken
-taken_plus e k l h = cond-true (in_label l true k) (grown e true l) (cond (in_label l false k) (grown e false l) (One l)) h
-
-pub taken_minus : (e : Entry) (k : ℕ) (l : Label) → in_label l true k ≡ false → in_label l false k ≡ true → taken e k l ≡ grown e false l
-unfolding taken
-taken_minus e k l h g =
-    cond-false (in_label l true k) (grown e true l) (cond (in_label l false k) (grown e false l) (One l)) h
-    ∙ cond-true (in_label l false k) (grown e false l) (One l) g
 
 pub taken_none : (e : Entry) (k : ℕ) (l : Label) → in_label l true k ≡ false → in_label l false k ≡ false → taken e k l ≡ One l
 unfolding taken

@@ -65,18 +65,15 @@ fn grow(entry: Entry, sign: bool, label: Label) -> Ways
 }
 
 // What entry k, if the label holds it, makes of the label.
+#[tactic(auto, unfolding(tableau::specs::Expansions::taken))]
 fn take(plan: &Plan, k: usize, label: Label) -> Ways
     requires { k < 64 }
     ensures { result ≡ taken (listed_entry plan.now.entries k) k label }
 {
-    let entry = plan.entry(k);
-    if label.holds(true, k) {
-        return grow(entry, true, label);
+    match label.sign(k) {
+        Some(sign) => grow(plan.entry(k), sign, label),
+        None => Ways::One(label),
     }
-    if label.holds(false, k) {
-        return grow(entry, false, label);
-    }
-    Ways::One(label)
 }
 
 // The entries at which the label clashes.
@@ -102,6 +99,7 @@ fn clashes(plan: &Plan, label: Label) -> bool
 }
 
 // What the second alternative at entry k adds to a choice word.
+#[tactic(auto, unfolding(crate::specs::Choices::weight))]
 fn weight_of(k: usize) -> u64
     requires { k < 64 }
     ensures { result ≡ weight k }

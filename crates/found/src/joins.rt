@@ -36,6 +36,7 @@ impl<'a> Edges<'a> {
     }
 
     // Joins to each row of the table what it gets.
+    // Stays: two arrays of rows, since the chains are worked out of a whole array of rows, in place.
     fn spread(&self, own: &[u64; 64], chains: &[u64; 64], table: &mut [u64; 4096])
         ensures { (t x : ℕ) → t < 64 → x < 64 → slice_index table.new (64 * t + x) ≡ bit_or (slice_index table.old (64 * t + x)) (share_of (t == self.now.role) (has (slice_index self.now.plan.now.rows self.now.role) t) (slice_index own.now x) (slice_index chains.now x)) }
     {

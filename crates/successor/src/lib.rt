@@ -53,13 +53,7 @@ pub fn obligation_at(plan: &Plan, label: Label, i: usize) -> Option<Demand>
     ensures value { result ≡ obliged_at (table_in plan.now) label i }
     ensures inside { IfSome result (λ d. (d.role < 64) × (d.part < 64)) }
 {
-    if label.holds(true, i) {
-        return obligation(plan.entry(i), true);
-    }
-    if label.holds(false, i) {
-        return obligation(plan.entry(i), false);
-    }
-    None
+    obligation(plan.entry(i), label.sign(i)?)
 }
 
 // A node with the label, which tells a successor by the role what its restrictions say.

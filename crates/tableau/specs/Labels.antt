@@ -1,5 +1,5 @@
 -- Labels: sets of signed entries. The sign true is +, an individual is in the entry; false is -, it is not.
-use Rattle.std.specs.Prelude.{ℕ, suc, ◌^◌, Bool, true, false, cond, ◌&&◌, List, [], ◌∷◌, ◌==◌, bit_and, bit_or}
+use Rattle.std.specs.Prelude.{ℕ, suc, ◌^◌, Bool, true, false, cond, ◌&&◌, List, [], ◌∷◌, ◌==◌, bit_and, bit_or, Option, None, Some}
 use Rattle.words.specs.Sets.{has}
 use Rattle.tableau.specs.declared.Label.{Label}
 
@@ -10,6 +10,10 @@ empty = record { plus = 0; minus = 0 }
 unfoldable pub in_label : Label → Bool → ℕ → Bool
 in_label l true i = has l.plus i
 in_label l false i = has l.minus i
+
+-- the sign with which the label holds entry i, if it does: + where it holds it with both
+abbrev pub sign_at : Label → ℕ → Option Bool
+sign_at l i = cond (in_label l true i) (Some true) (cond (in_label l false i) (Some false) None)
 
 -- the label with entry i, signed s, in it too
 unfoldable pub put : Bool → ℕ → Label → Label

@@ -4,7 +4,7 @@
 
 ghost use Rattle.std.specs.Prelude.{◌≡◌, ℕ, ◌<◌, ◌||◌};
 ghost use Rattle.words.specs.Sets.{has};
-ghost use Rattle.tableau.specs.Labels.{in_label, put, put_all, contains};
+ghost use Rattle.tableau.specs.Labels.{in_label, sign_at, put, put_all, contains};
 ghost use Rattle.tableau.specs.Examples.{WorkedExamples, ExamplesOpen};
 ghost use Rattle.tableau.specs.Promises.{FailureIsRight, SuccessIsRight, RoomSuffices, SearchWithinRoom, StandingLabelsDiffer, EdgesAreThoseChosen, SearchDecides};
 
@@ -28,6 +28,20 @@ impl Label {
         ensures { result ≡ in_label self sign i }
     {
         words::member(if sign { self.plus } else { self.minus }, i)
+    }
+
+    // The sign with which the label holds entry i, if it holds it: + where it holds it with both.
+    pub fn sign(self, i: usize) -> Option<bool>
+        requires { i < 64 }
+        ensures { result ≡ sign_at self i }
+    {
+        if self.holds(true, i) {
+            Some(true)
+        } else if self.holds(false, i) {
+            Some(false)
+        } else {
+            None
+        }
     }
 
     // The entries that the label holds, with either sign.

@@ -1,5 +1,4 @@
-use Rattle.std.proofs.Common.{arith}
-use Rattle.found.proofs.Reaching.{pass_none, pass_more, pass_all}
+use Rattle.found.proofs.Reaching.{pass_none, pass_more}
 use Rattle.found.proofs.closure.close.Goals as goal
 
 pub loop-k-init : goal.loop-k-init
@@ -8,6 +7,3 @@ loop-k-init c = λ R before. pass_none c.args.m R c.args.rows.now before
 pub loop-k-preserved : goal.loop-k-preserved
 loop-k-preserved c = λ R before.
     pass_more c.args.m c.loop-k.k R c.loop-k.rows c.pass.new.rows c.requires c.loop-k-test.true c.pass.ensures (c.loop-k.invariant R before)
-
-pub returns : goal.returns
-returns c = λ R before. pass_all c.args.m c.loop-k.k R c.loop-k.rows (omega arith) (c.loop-k.invariant R before)

@@ -1,7 +1,6 @@
-use Rattle.std.proofs.Common.{length, ap, ◌∙◌, arith}
-use Rattle.words.specs.Sets.{set_of}
+use Rattle.std.proofs.Common.{length}
 use Rattle.search.specs.Nodes.{labels}
-use Rattle.found.proofs.Leading.{led_to, led_none, led_more}
+use Rattle.found.proofs.Leading.{led_none, led_more}
 use Rattle.found.proofs.edges.Edges.targets.Goals as goal
 
 pub loop-i-init : goal.loop-i-init
@@ -14,8 +13,3 @@ loop-i-preserved c =
     let e = c.args.self.now in
     led_more e.plan.now (labels e.nodes.now) c.args.label (length e.nodes.now) e.role e.few
     c.loop-i.i c.loop-i.set c.led.result c.union-set.result c.loop-i.invariant c.led.ensures c.union-set.ensures.value
-
-pub returns : goal.returns
-returns c =
-    let e = c.args.self.now in
-    c.loop-i.invariant ∙ ap (λ n. set_of (length e.nodes.now) (led_to e.plan.now (labels e.nodes.now) c.args.label n e.role)) (omega arith)
