@@ -15,7 +15,9 @@ fn opened(bytes: &[u8]) -> Result<Register, Fail> {
 
 // The number and the detail of a refusal.
 fn told<T: Drop>(res: Result<T, Denial>) -> Result<(u8, usize), Fail> {
-    let denial = res.err().ok_or(Fail::new("not refused"))?;
+    let Err(denial) = res else {
+        return Err(Fail::new("not refused"));
+    };
     let report = denial.report();
     Ok((report.number, report.detail))
 }
