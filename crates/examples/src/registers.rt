@@ -1,16 +1,11 @@
 // The worked examples of the register.
+use crate::tests::{A, B};
 use book::read::read;
 use denial::{Denial, Report};
 use register::{Register, Shown, Side};
 use roles::rows::Rows;
 use search::Node;
 use std::test::Fail;
-
-const A: &[u8; 44] =
-    b"\x01\x00\x00\x01\x02\x00\x00\x00\x06\x00\x00\x00\x06\x00\x01\x00\x03\x00\x00\x00\x07\x01\x03\x00\x04\x02\x04\x00\x00\x00\x02\x00\x02\x00\x01\x00\x04\x00\x06\x00\x1c\x00\x00\x00";
-
-const B: &[u8; 27] =
-    b"\x00\x02\x00\x00\x00\x06\x00\x00\x00\x00\x01\x00\x00\x01\x00\x01\x00\x00\x00\x01\x00\x02\x00\x09\x00\x01\x00";
 
 // A register on the book in the bytes, under its closure rows.
 fn opened(bytes: &[u8]) -> Result<Register, Fail> {
@@ -20,17 +15,11 @@ fn opened(bytes: &[u8]) -> Result<Register, Fail> {
 
 // The number and the detail of a refusal.
 fn told<T: Drop>(res: Result<T, Denial>) -> Result<(u8, usize), Fail> {
-    match res {
-        Ok(_) => Err(Fail::new("not refused")),
-        Err(denial) => {
-            let report = denial.report();
-            Ok((report.number, report.detail))
-        }
-    }
-}
-
-fn class(res: Result<usize, Denial>) -> Option<usize> {
-    res.ok()
+    let Err(denial) = res else {
+        return Err(Fail::new("not refused"));
+    };
+    let report = denial.report();
+    Ok((report.number, report.detail))
 }
 
 #[test]
@@ -38,16 +27,16 @@ fn entries_of_a(rt: HostRuntime) -> Result<(), Fail> {
     let mut two = [Node::BLANK; 2];
     let mut three = [Node::BLANK; 3];
     assert_eq!(rt; told(opened(A)?.file(5, &mut two))?, (15, 0));
-    assert_eq!(rt; class(opened(A)?.file(5, &mut three)), Some(0));
+    assert_eq!(rt; opened(A)?.file(5, &mut three).ok(), Some(0));
     let mut register = opened(A)?;
     assert_eq!(rt; register.width(), 9);
     let mut nodes = [Node::BLANK; 64];
-    assert_eq!(rt; class(register.file(0, &mut nodes)), Some(1));
-    assert_eq!(rt; class(register.file(1, &mut nodes)), Some(2));
-    assert_eq!(rt; class(register.file(2, &mut nodes)), Some(3));
-    assert_eq!(rt; class(register.file(3, &mut nodes)), Some(4));
-    assert_eq!(rt; class(register.file(4, &mut nodes)), Some(5));
-    assert_eq!(rt; class(register.file(5, &mut nodes)), Some(0));
+    assert_eq!(rt; register.file(0, &mut nodes).ok(), Some(1));
+    assert_eq!(rt; register.file(1, &mut nodes).ok(), Some(2));
+    assert_eq!(rt; register.file(2, &mut nodes).ok(), Some(3));
+    assert_eq!(rt; register.file(3, &mut nodes).ok(), Some(4));
+    assert_eq!(rt; register.file(4, &mut nodes).ok(), Some(5));
+    assert_eq!(rt; register.file(5, &mut nodes).ok(), Some(0));
     assert_eq!(rt; register.class_count(), 5);
     assert_eq!(rt; register.ask(3, 2, &mut nodes).ok(), Some(true));
     assert_eq!(rt; register.ask(2, 3, &mut nodes).ok(), Some(false));
@@ -61,7 +50,7 @@ fn entries_of_b(rt: HostRuntime) -> Result<(), Fail> {
     let mut one = [Node::BLANK; 1];
     assert_eq!(rt; told(opened(B)?.file(1, &mut one))?, (15, 0));
     let mut register = opened(B)?;
-    assert_eq!(rt; class(register.file(0, &mut one)), Some(1));
+    assert_eq!(rt; register.file(0, &mut one).ok(), Some(1));
     let mut sheet = [7u64; 67];
     let shown = register.show(1, 0, &mut one, &mut sheet).ok();
     assert_eq!(rt;
@@ -81,7 +70,7 @@ fn entries_of_b(rt: HostRuntime) -> Result<(), Fail> {
     assert_eq!(rt; short[0], 7);
     assert_eq!(rt; told(register.show(1, 1, &mut one, &mut short))?, (16, 1));
     let mut two = [Node::BLANK; 2];
-    assert_eq!(rt; class(register.file(1, &mut two)), Some(2));
+    assert_eq!(rt; register.file(1, &mut two).ok(), Some(2));
     Ok(())
 }
 
@@ -91,11 +80,9 @@ fn sixty_three_roles_open_and_sixty_four_do_not(rt: HostRuntime) -> Result<(), F
         b"\x00\x00\x00\x00\x00\x00\x00\x00\x00\x00\x00\x00\x00\x00\x00\x00\x00\x00\x00\x00\x00\x00\x00\x00\x00\x00\x00\x00\x00\x00\x00\x00\x00\x00\x00\x00\x00\x00\x00\x00\x00\x00\x00\x00\x00\x00\x00\x00\x00\x00\x00\x00\x00\x00\x00\x00\x00\x00\x00\x00\x00\x00\x00\x01\x00\x00\x00\x00\x00\x3f\x00\x3f\x00\x00\x00\x3f\x00\x01\x00\x43\x00\x00\x00",
     )?;
     assert_eq!(rt; register.role_count(), 63);
-    let Ok(book) = read(
+    let book = read(
         b"\x00\x00\x00\x00\x00\x00\x00\x00\x00\x00\x00\x00\x00\x00\x00\x00\x00\x00\x00\x00\x00\x00\x00\x00\x00\x00\x00\x00\x00\x00\x00\x00\x00\x00\x00\x00\x00\x00\x00\x00\x00\x00\x00\x00\x00\x00\x00\x00\x00\x00\x00\x00\x00\x00\x00\x00\x00\x00\x00\x00\x00\x00\x00\x00\x01\x00\x00\x00\x00\x00\x40\x00\x40\x00\x00\x00\x40\x00\x01\x00\x44\x00\x00\x00",
-    ) else {
-        return Err(Fail::new("not read"));
-    };
+    ).map_err(|_| Fail::new("not read"))?;
     assert_eq!(rt;
         told(Register::open(&book, &Rows::closed(&book)))?,
         (12, 64)

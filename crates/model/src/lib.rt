@@ -31,6 +31,9 @@ impl<'p> Strategy for Planned<'p> {
     }
 }
 
+// Stays: `find` and `has_world` stand beside `find_in_blank` and `tried`, which ask for blank nodes and wipe no more than was
+// written. With many lent nodes a wipe of all of them is the dearest part of a small search.
+
 // Searches from the seed in the lent nodes. Where it stands, the labels of the first so many nodes are the standing list,
 // and the other nodes are blank; where it fails, the answer is `None` and every node is blank.
 pub fn find(plan: &Plan, nodes: &mut [Node], seed: Label) -> Result<Option<usize>, NoRoom>

@@ -23,12 +23,16 @@ use tableau::Label;
 const NODES: usize = 4096;
 
 // The plan of the book in the bytes, under its closure rows.
+// Stays: the tests in `examples` have the like, with an error that tells where it stopped. This crate is a static library, on
+// which no other builds, and the two lines are not worth a public function of `plan`.
 fn plan_of(bytes: &[u8]) -> Option<Plan> {
     let book = read(bytes).ok()?;
     Plan::new(&book, &Rows::closed(&book)).ok()
 }
 
 // How many expansions the seed has, counted no further than the limit.
+// Stays: each step asks at the word that the last one answered, here and in `count_seeds`. A chain of `successors` would
+// take the same pair through a closure, and nothing says of such a chain that it ends, which `count` asks.
 pub fn count_labels(plan: &Plan, seed: Label, limit: u64) -> u64
     ensures { result ≡ min limit (length (expansions (table_in plan.now) seed)) }
 {

@@ -141,6 +141,7 @@ pub fn run<S: Strategy>(
 }
 
 // The same in nodes that are blank.
+// Stays: a call of its own beside `run`, since a caller of many searches wipes only what each of them wrote.
 pub fn run_in_blank<S: Strategy>(
     strategy: &S,
     nodes: &mut [Node],
