@@ -30,7 +30,7 @@ impl Register {
     }
 
     // The class that the entry belongs to, if there is one: nothing first, and then each class in its turn.
-    #[tactic(auto, using(crate::proofs::Placing::placing_told))]
+    #[tactic(auto, unfolding(runs::specs::Steps::placing))]
     fn place(&self, entry: usize, nodes: &mut [Node]) -> Result<Option<usize>, Denial>
         requires entry { entry < 60 }
         requires blank { nodes.old ≡ replicate (length nodes.old) blank }
@@ -67,7 +67,7 @@ impl Register {
     }
 
     // Whether no world holds the two entries apart: none with a in and b out, and then none the other way round.
-    #[tactic(auto, using(crate::proofs::Placing::compared_told))]
+    #[tactic(auto, unfolding(runs::specs::Steps::compared))]
     fn compare(&self, a: usize, b: usize, nodes: &mut [Node]) -> Result<bool, NoRoom>
         requires a { a < 60 }
         requires b { b < 60 }
