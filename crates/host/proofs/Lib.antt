@@ -1,4 +1,3 @@
-pub mod Comparing
 pub mod Opening
 pub mod Meaning
 pub mod Relating

@@ -1,8 +1,7 @@
--- The relation by the bytes of a book: the refusals in their order, and what a relation means.
-use Rattle.std.proofs.Common.{◌≡◌, ℕ, List, [], IfOk, Ok, Err, Result, sym, ap, ◌∙◌, subst}
+-- What the relation by the bytes of a book means.
+use Rattle.std.proofs.Common.{◌≡◌, ℕ, List, [], IfOk, Ok, Err, Result, sym, subst}
 use Rattle.denial.specs.declared.Denial.{Denial}
-use Rattle.denial.specs.declared.Report.{Report}
-use Rattle.denial.specs.Denials.{Answer, granted, denied, answer, and_then, denial_report}
+use Rattle.denial.specs.Denials.{Answer, granted, answer, denial_report}
 use Rattle.meaning.specs.Books.{Sound}
 use Rattle.book.specs.Sections.{Sections, says}
 use Rattle.book.specs.Reading.{reading}
@@ -10,34 +9,15 @@ use Rattle.roles.specs.Hierarchies.{roles_of}
 use Rattle.plan.specs.Building.{verdict}
 use Rattle.runs.specs.Setups.{setup}
 use Rattle.host.specs.declared.relation.Relation.{Relation}
-use Rattle.host.specs.Relations.{filed_by, nodes_lent, relating}
+use Rattle.host.specs.Relations.{filed_by, nodes_lent}
 use Rattle.host.specs.Meanings.{Means}
 use Rattle.host.proofs.Opening.{opens}
 use Rattle.host.proofs.Meaning.{relation_means}
 
 module _ (bytes : List ℕ) (first second : ℕ) where
-  -- what is done with a book that was read, and with one on which a register is opened
+  -- what is done with a book on which a register is opened
   abbrev filing : Sections → Answer Relation
   filing s = filed_by (setup (roles_of s) (says s)) [] nodes_lent first second
-
-  abbrev opening : Sections → Answer Relation
-  opening s = and_then (verdict (roles_of s) (says s)) (λ u. filing s)
-
-  pub read_refused : (r : Report) → denied r ≡ reading bytes → denied r ≡ relating bytes first second
-  unfolding relating
-  read_refused r e = ap (λ a. and_then a opening) e
-
-  was_read : (s : Sections) → granted s ≡ reading bytes → opening s ≡ relating bytes first second
-  unfolding relating
-  was_read s e = ap (λ a. and_then a opening) e
-
-  pub open_refused : (s : Sections) (r : Report) → granted s ≡ reading bytes → denied r ≡ verdict (roles_of s) (says s)
-      → denied r ≡ relating bytes first second
-  open_refused s r e f = ap (λ a. and_then a (λ u. filing s)) f ∙ was_read s e
-
-  pub opened_files : (s : Sections) → granted s ≡ reading bytes → granted tt ≡ verdict (roles_of s) (says s)
-      → filing s ≡ relating bytes first second
-  opened_files s e f = ap (λ a. and_then a (λ u. filing s)) f ∙ was_read s e
 
   -- What was read is what the reader of a contract read, so the relation means to him what it means here.
   pub found_means : (s : Sections) → Sound (says s) → granted s ≡ reading bytes → granted tt ≡ verdict (roles_of s) (says s)

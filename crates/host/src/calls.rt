@@ -23,6 +23,7 @@ use search::Node;
 const NODES: usize = 200;
 
 // The relation of two entries of the book in the bytes, or the first refusal; and what the relation means.
+#[tactic(auto, unfolding(crate::specs::Relations::relating))]
 pub(crate) fn relation(bytes: &[u8], first: usize, second: usize) -> Result<Relation, Denial>
     ensures value { answer (λ x. x) denial_report result ≡ relating bytes.now first second }
     ensures meaning { IfOk result (λ x. (s : Sections) → reading bytes.now ≡ granted s → Means (roles_of s) (says s) first second x) }
@@ -43,6 +44,7 @@ fn opened(book: &Book) -> Result<Register, Denial>
 }
 
 // Files the two entries, the first one first, and compares their classes.
+#[tactic(auto, unfolding(crate::specs::Relations::filed_by))]
 fn filed(
     register: &mut Register,
     first: usize,
@@ -57,6 +59,7 @@ fn filed(
 }
 
 // Asks whether all of class a is in class b, and then the reverse.
+#[tactic(auto, unfolding(crate::specs::Relations::compared_by))]
 fn compared(register: &Register, a: usize, b: usize, nodes: &mut [Node]) -> Result<Relation, Denial>
     ensures { answer (λ x. x) denial_report result ≡ compared_by (setup_of register.now) (classes_of register.now) (length nodes.old) a b }
 {

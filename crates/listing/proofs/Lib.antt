@@ -1,3 +1,2 @@
 mod Filing
-mod Numbers
 mod Opening

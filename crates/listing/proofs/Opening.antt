@@ -1,11 +1,10 @@
--- From the bytes of a book to the run of its listing.
+-- From a book to the run of its listing.
 use Rattle.std.proofs.Common.{◌≡◌, ℕ, ◌&&◌, ltb, List, [], length, sym, ap, ◌∙◌, subst, arith}
 use Rattle.words.specs.Sets.{has}
-use Rattle.denial.specs.Denials.{Answer, granted, denied, and_then}
+use Rattle.denial.specs.Denials.{granted, denied, and_then}
 use Rattle.denial.specs.declared.Report.{Report}
 use Rattle.meaning.specs.Orders.{RoleBox}
 use Rattle.book.specs.Sections.{Sections, says}
-use Rattle.book.specs.Reading.{reading}
 use Rattle.roles.specs.Told.{marked}
 use Rattle.roles.specs.Closure.{closure}
 use Rattle.roles.specs.Rows.{related}
@@ -17,7 +16,7 @@ use Rattle.lines.specs.Listings.{line_of_book}
 use Rattle.runs.specs.Setups.{Setup, setup}
 use Rattle.runs.specs.Runs.{Event, Run, history, Right}
 use Rattle.runs.proofs.Rightness.{runs_by_calls}
-use Rattle.listing.specs.Listings.{filings, lines_of, filing_run, opened_run, listed, listing_of}
+use Rattle.listing.specs.Listings.{filings, lines_of, filing_run, opened_run, listed}
 
 -- the closure rows of the book say what its own hierarchy says
 pub rows_same : (s : Sections) (x : Rows) → x.count ≡ length s.roles
@@ -56,21 +55,3 @@ module _ (s : Sections) (H : RoleBox) (same : H ≡ roles_of s) where
 
     pub refused_never : verdict (roles_of s) (says s) ≡ granted tt → ⊥
     refused_never opened = let e : denied r ≡ granted tt = refused ∙ sym verdict_same ∙ opened in let z : ◌≡◌ {A = ℕ} 0 1 = cc in omega arith
-
--- the book in the bytes was read
-pub read_lines : (bytes : List ℕ) (s : Sections) → granted s ≡ reading bytes → listed (opened_run s) ≡ listing_of bytes
-unfolding listing_of
-read_lines bytes s read = ap (λ a. listed (and_then a opened_run)) read
-
-pub read_right : (a : Answer Sections) (s : Sections) → granted s ≡ a → (verdict (roles_of s) (says s) ≡ granted tt → Right (roles_of s) (says s) (filing_run s))
-    → (t : Sections) → a ≡ granted t → verdict (roles_of t) (says t) ≡ granted tt → Right (roles_of t) (says t) (filing_run t)
-read_right a s read right t is =
-    let same : s ≡ t = cc in subst (λ t. verdict (roles_of t) (says t) ≡ granted tt → Right (roles_of t) (says t) (filing_run t)) same right
-
--- it was refused
-pub unread_line : (bytes : List ℕ) (r : Report) → denied r ≡ reading bytes → line_of_book r.number ≡ listing_of bytes
-unfolding listing_of
-unread_line bytes r refused = ap (λ a. listed (and_then a opened_run)) refused
-
-pub unread_never : (a : Answer Sections) (r : Report) → denied r ≡ a → (t : Sections) → a ≡ granted t → ⊥
-unread_never a r refused t is = let z : ◌≡◌ {A = ℕ} 0 1 = cc in omega arith

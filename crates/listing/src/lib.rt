@@ -29,6 +29,7 @@ const NODES: usize = 64;
 // The listing of the book in the bytes: for each entry, upward from 0, a line with its class number, or with the number of
 // the refusal of its filing; for a book that is refused, in reading or in opening, the line of that refusal alone. Where a
 // register is opened, the run of which these are the lines is right.
+#[tactic(auto, unfolding(crate::specs::Listings::listing_of))]
 pub fn listing(heap: Global, bytes: &[u8]) -> Result<Vec<u8>, AllocError>
     ensures lines { IfOk result (λ v. v.items ≡ listing_of bytes.now) }
     ensures right { (s : Sections) → reading bytes.now ≡ granted s → verdict (roles_of s) (says s) ≡ granted tt → Right (roles_of s) (says s) (filing_run s) }

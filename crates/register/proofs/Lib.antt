@@ -1,4 +1,3 @@
 pub mod Placing
-pub mod Asking
 pub mod Opening
 pub mod Showing

@@ -1,15 +1,14 @@
 -- What showing comes to, from what is told of the searches and of the world that was found.
-use Rattle.std.proofs.Common.{◌≡◌, ℕ, zero, suc, ◌-◌, ◌<◌, Bool, true, false, cond, ◌&&◌, eqb, leb, List, [], length, get_or, take, IfOk, IfSome, Some, None, Option, Ok, Err, Result, sym, refl, ap, ◌∙◌, subst, arith}
+use Rattle.std.proofs.Common.{◌≡◌, ℕ, zero, suc, ◌-◌, ◌<◌, Bool, true, false, cond, ◌&&◌, leb, List, [], length, take, IfOk, IfSome, Some, None, Option, Ok, Err, Result, sym, refl, ap, ◌∙◌, subst, arith}
 use lib.ListN.{length-map}
-use Rattle.std.proofs.lemmas.Bool.{and_parts, eq-eqb, ne_eqb, cond-true, cond-false}
+use Rattle.std.proofs.lemmas.Bool.{and_parts, cond-true, cond-false}
 use Rattle.denial.specs.Denials.{granted, denied, reported}
 use Rattle.denial.specs.declared.Layer.TheVariants.{Register}
 use Rattle.meaning.specs.Worlds.{Interpretation, Sized}
 use Rattle.meaning.specs.Agreement.{Agree}
 use Rattle.sheet.specs.Sheets.{needed}
 use Rattle.tableau.specs.declared.Label.{Label}
-use Rattle.tableau.specs.Search.{Outcome, failed, full, stands, explore}
-use Rattle.tableau.specs.Working.{seed_of_not, seed_of_one}
+use Rattle.tableau.specs.Search.{explore}
 use Rattle.drawing.specs.Drawings.{drawn_on}
 use Rattle.drawing.proofs.Sheets.{drawn_same}
 use Rattle.plan.specs.declared.Plan.{Plan}
@@ -19,24 +18,8 @@ use Rattle.search.specs.declared.NoRoom.{NoRoom}
 use Rattle.search.specs.Nodes.{labels, label_of, Says}
 use Rattle.found.specs.Founds.{found_in, finding}
 use Rattle.model.proofs.Same.{find_some}
-use Rattle.runs.specs.Setups.{Setup, search_in, apart}
-use Rattle.runs.specs.Steps.{shown, refusal, Showed, showed, showed_world, showed_second, showed_first, showing}
+use Rattle.runs.specs.Steps.{shown, refusal, Showed, showed, showed_world}
 use Rattle.register.specs.Registers.{setup_in}
-use Rattle.register.specs.Showing.{seed_of_apart}
-use Rattle.register.proofs.Asking.{apart_not, apart_one}
-
--- the search of "a not b" starts from the seed of the classes
-pub apart_seed : (S : Setup) (cs : List ℕ) (a b n : ℕ) → 0 < a → apart S cs a b n ≡ search_in S (seed_of_apart cs a b) n
-apart_seed S cs a zero n l =
-    apart_one S cs a n l
-    ∙ ap (λ s. search_in S s n) (sym (cond-true (eqb zero 0) (seed_of_one (get_or cs (a - 1) 0)) (seed_of_not (get_or cs (a - 1) 0) (get_or cs (zero - 1) 0)) (eq-eqb zero 0 refl)))
-apart_seed S cs a (suc b) n l =
-    apart_not S cs a (suc b) n l (omega arith)
-    ∙ ap (λ s. search_in S s n) (sym (cond-false (eqb (suc b) 0) (seed_of_one (get_or cs (a - 1) 0)) (seed_of_not (get_or cs (a - 1) 0) (get_or cs (suc b - 1) 0)) (ne_eqb (suc b) 0 (λ e. omega arith))))
-
-pub apart_zero : (S : Setup) (cs : List ℕ) (a b n : ℕ) → a ≡ 0 → apart S cs a b n ≡ failed
-unfolding apart
-apart_zero S cs a b n e = ap (λ x. apart S cs x b n) e
 
 -- a search that stands has a node
 pub some_node : (p : Plan) (n : ℕ) (seed : Label) (nodes : List Node) (r : Result (Option ℕ) NoRoom) → Says nodes r (explore (box_in p) (table_in p) n n [] seed)
@@ -82,30 +65,3 @@ drawn_sheet p e nodes side words W sized agree fits sheet drawn =
     by_words false t =
         cond-false (leb (needed (p.count - 1) (length (labels nodes))) (length words)) _ words t
         ∙ ap (λ (s : Showed). s.sheet) (sym (cond-false (leb (needed (p.count - 1) (length (labels nodes))) (length words)) _ _ t))
-
--- the two searches, one after the other, from what each of them says
-module _ (S : Setup) (cs : List ℕ) (a b n : ℕ) (words : List ℕ) where
-  by_first : (o : Outcome) → apart S cs a b n ≡ o → showed_first S a words o (λ u. apart S cs b a n) ≡ showing S cs a b n words
-  unfolding showing
-  by_first o e = sym (ap (λ o. showed_first S a words o (λ u. apart S cs b a n)) e)
-
-  module _ (nodes : List Node) (r : Result (Option ℕ) NoRoom) (first : Says nodes r (apart S cs a b n)) where
-    pub first_stood : (m : ℕ) → r ≡ Ok (Some m) → showed_world S words 1 (labels (take m nodes)) ≡ showing S cs a b n words
-    first_stood m e = by_first (stands (labels (take m nodes))) (subst (λ r. Says nodes r (apart S cs a b n)) e first).0
-
-    pub first_full : (e : NoRoom) → r ≡ Err e → showed (refusal 15 a) words ≡ showing S cs a b n words
-    first_full e f = by_first full (subst (λ r. Says nodes r (apart S cs a b n)) f first)
-
-    module _ (none : r ≡ Ok None) (k : ℕ) (as-many : k ≡ n) (after : List Node) (q : Result (Option ℕ) NoRoom) (second : Says after q (apart S cs b a k)) where
-      by_second : (o : Outcome) → apart S cs b a k ≡ o → showed_second S a words o ≡ showing S cs a b n words
-      by_second o e =
-          ap (showed_second S a words) (sym e ∙ ap (apart S cs b a) as-many) ∙ by_first failed (subst (λ r. Says nodes r (apart S cs a b n)) none first).0
-
-      pub second_stood : (m : ℕ) → q ≡ Ok (Some m) → showed_world S words 2 (labels (take m after)) ≡ showing S cs a b n words
-      second_stood m e = by_second (stands (labels (take m after))) (subst (λ q. Says after q (apart S cs b a k)) e second).0
-
-      pub second_full : (e : NoRoom) → q ≡ Err e → showed (refusal 15 a) words ≡ showing S cs a b n words
-      second_full e f = by_second full (subst (λ q. Says after q (apart S cs b a k)) f second)
-
-      pub second_failed : q ≡ Ok None → showed (refusal 16 a) words ≡ showing S cs a b n words
-      second_failed e = by_second failed (subst (λ q. Says after q (apart S cs b a k)) e second).0

@@ -24,7 +24,7 @@ impl Register {
     }
 
     // The same for numbers that were given.
-    #[tactic(auto, using(crate::proofs::Asking::zero_within, crate::proofs::Asking::not_in_zero, crate::proofs::Asking::asking_told))]
+    #[tactic(auto, unfolding(runs::specs::Steps::asking, runs::specs::Setups::apart))]
     fn within(&self, a: usize, b: usize, nodes: &mut [Node]) -> Result<bool, Denial>
         requires a { a ≤ length (classes_of self.now) }
         requires b { b ≤ length (classes_of self.now) }

@@ -1,5 +1,5 @@
 // Filing: the class number of an entry.
-ghost use Rattle.std.specs.Prelude.{◌≡◌, ◌<◌, ◌≤◌, [], length, replicate};
+ghost use Rattle.std.specs.Prelude.{◌≡◌, ◌<◌, ◌≤◌, [], length, replicate, IfOk, IfSome};
 ghost use Rattle.search.specs.Nodes.{blank};
 ghost use Rattle.runs.specs.Steps.{Call, class, added, compared, placed, placing, step};
 ghost use Rattle.register.specs.Registers.{setup_of, classes_of, reply_of, done};
@@ -16,6 +16,7 @@ impl Register {
     pub fn file(&mut self, entry: usize, nodes: &mut [Node]) -> Result<usize, Denial>
         ensures done { done (reply_of class result) self.new nodes.new [] ≡ step (setup_of self.old) (classes_of self.old) (Call.file entry (length nodes.old)) }
         ensures setup { setup_of self.new ≡ setup_of self.old }
+        ensures few { IfOk result (λ class. class ≤ 24) }
     {
         let workspace = Workspace(nodes);
         if entry >= self.entries {
@@ -29,11 +30,12 @@ impl Register {
     }
 
     // The class that the entry belongs to, if there is one: nothing first, and then each class in its turn.
-    #[tactic(auto, using(crate::proofs::Placing::placing_told))]
+    #[tactic(auto, unfolding(runs::specs::Steps::placing))]
     fn place(&self, entry: usize, nodes: &mut [Node]) -> Result<Option<usize>, Denial>
         requires entry { entry < 60 }
         requires blank { nodes.old ≡ replicate (length nodes.old) blank }
         ensures value { result ≡ placing (setup_of self.now) (classes_of self.now) entry (length nodes.old) }
+        ensures few { IfOk result (λ found. IfSome found (λ class. class ≤ 24)) }
         ensures wiped { nodes.new ≡ replicate (length nodes.old) blank }
     {
         let some = self
@@ -50,6 +52,7 @@ impl Register {
         requires entry { entry < 60 }
         requires blank { nodes.old ≡ replicate (length nodes.old) blank }
         ensures value { result ≡ placed (setup_of self.now) entry (length nodes.old) (classes_of self.now) 1 }
+        ensures few { IfOk result (λ found. IfSome found (λ class. class ≤ 24)) }
         ensures wiped { nodes.new ≡ replicate (length nodes.old) blank }
     {
         'classes: for (k, stand) in self.classes.iter().enumerate() {
@@ -64,7 +67,7 @@ impl Register {
     }
 
     // Whether no world holds the two entries apart: none with a in and b out, and then none the other way round.
-    #[tactic(auto, using(crate::proofs::Placing::compared_told))]
+    #[tactic(auto, unfolding(runs::specs::Steps::compared))]
     fn compare(&self, a: usize, b: usize, nodes: &mut [Node]) -> Result<bool, NoRoom>
         requires a { a < 60 }
         requires b { b < 60 }
@@ -85,6 +88,7 @@ impl Register {
         ensures reply { reply_of class result ≡ (added (classes_of self.old) entry).reply }
         ensures classes { classes_of self.new ≡ (added (classes_of self.old) entry).classes }
         ensures setup { setup_of self.new ≡ setup_of self.old }
+        ensures few { IfOk result (λ class. class ≤ 24) }
     {
         self.classes
             .try_push(entry as u8)

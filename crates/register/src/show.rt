@@ -54,6 +54,7 @@ impl Register {
     }
 
     // The same for different numbers that were given.
+    #[tactic(auto, using(search::proofs::Steps::all_blank), unfolding(runs::specs::Steps::showing))]
     fn separate(
         &self,
         a: usize,
@@ -77,6 +78,7 @@ impl Register {
     }
 
     // The search for an individual of class a that is not of class b. Class 0 has none, and needs no search.
+    #[tactic(auto, using(search::proofs::Steps::blank_all, crate::proofs::Showing::some_node), unfolding(runs::specs::Setups::apart))]
     fn apart(&self, a: usize, b: usize, nodes: &mut [Node]) -> Result<Option<usize>, NoRoom>
         requires a { a ≤ length (classes_of self.now) }
         requires b { b ≤ length (classes_of self.now) }

@@ -9,14 +9,16 @@ use Rattle.register.specs.Registers.{setup_of}
 use Rattle.host.proofs.Opening.{rows_are}
 use Rattle.host.proofs.calls.opened.Goals as goal
 
-pub returns : goal.returns
-returns c =
+pub returns-clause-answer : goal.returns-clause-answer
+returns-clause-answer c =
     let s = view c.args.book.now in
     let x = c.closed.result in
     let e = c.closed.ensures in
-    let same = rows_are s x.count (related x.rows) (has x.marks) e.count e.relation e.transitive in
-    record {
-      answer = c.open.ensures.answer ∙ ap (λ H. verdict H (says s)) same;
-      setup = subst (λ H. IfOk c.open.result (λ g. setup_of g ≡ setup H (says s))) same c.open.ensures.setup;
-      fresh = c.open.ensures.fresh;
-    }
+    c.open.ensures.answer ∙ ap (λ H. verdict H (says s)) (rows_are s x.count (related x.rows) (has x.marks) e.count e.relation e.transitive)
+
+pub returns-clause-setup : goal.returns-clause-setup
+returns-clause-setup c =
+    let s = view c.args.book.now in
+    let x = c.closed.result in
+    let e = c.closed.ensures in
+    subst (λ H. IfOk c.open.result (λ g. setup_of g ≡ setup H (says s))) (rows_are s x.count (related x.rows) (has x.marks) e.count e.relation e.transitive) c.open.ensures.setup
