@@ -1,5 +1,5 @@
 // The items of a line, and the numbers that they write.
-ghost use Rattle.std.specs.Prelude.{◌≡◌, ℕ, ◌<◌, ◌≤◌, [], ◌==◌, Some, None, MatchResult, length};
+ghost use Rattle.std.specs.Prelude.{◌≡◌, ℕ, ◌<◌, ◌≤◌, [], Some, None, MatchResult, Decides};
 ghost use Rattle.std.specs.Str.{trim};
 ghost use Rattle.grammar.specs.Items.{first_item, other_items, Writes};
 
@@ -24,7 +24,7 @@ impl<'a> Items<'a> {
 
     // Whether there is no item left.
     pub fn is_empty(&self) -> bool
-        ensures { result ≡ (length self.now.rest.now == 0) }
+        ensures { Decides result (self.now.rest.now ≡ []) }
     {
         self.rest.is_empty()
     }

@@ -1,9 +1,10 @@
 // The lines of a script, as calls.
 #![tactic(auto)]
 
-ghost use Rattle.std.specs.Prelude.{IfOk};
+ghost use Rattle.std.specs.Prelude.{MatchResult};
 ghost use Rattle.std.specs.Str.{trim};
 ghost use Rattle.grammar.specs.Spelling.{Spells};
+ghost use Rattle.grammar.specs.declared.Call.{Call};
 
 mod items;
 
@@ -84,7 +85,7 @@ impl From<UnknownHierarchy> for NoCall {
 impl<'a> TryFrom<&'a str> for Call<'a> {
     type Error = NoCall;
 
-    ghost try_from_gives = { λ line r. IfOk r (λ call. Spells (trim line.now) call) };
+    ghost try_from_gives = { λ line r. MatchResult r (λ call. Spells (trim line.now) call) (λ _. (call : Call) → ¬ (Spells (trim line.now) call)) };
 
     fn try_from(line: &'a str) -> Result<Call<'a>, NoCall> {
         let mut items = Items::new(line);
