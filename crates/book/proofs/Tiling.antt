@@ -73,14 +73,3 @@ module _ (bytes : List ℕ) where
 
   pub tiles : Tiles bytes
   tiles s e = subst (λ ps. EndToEnd 0 ps bytes) (sym (parts_of_read s e)) (tiled (layout_of bytes) (layout_of_read s e))
-
--- the next part that is no note starts within the book
-pub target_within : (bytes : List ℕ) (l : Layout) (at : Stage) → l.roles.place + l.roles.count ≤ l.pairs.place
-    → l.pairs.place + 2 * l.pairs.count ≤ l.concepts.place → l.concepts.place + 4 * l.concepts.count ≤ l.rules.place
-    → l.rules.place + 2 * l.rules.count + 16 ≤ length bytes → target_of bytes l at ≤ length bytes
-target_within bytes l AtRoles a b c d = omega arith
-target_within bytes l AtPairs a b c d = omega arith
-target_within bytes l AtConcepts a b c d = omega arith
-target_within bytes l AtRules a b c d = omega arith
-target_within bytes l AtTrailer a b c d = omega arith
-target_within bytes l AtEnd a b c d = omega arith

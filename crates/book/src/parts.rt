@@ -6,6 +6,7 @@ use crate::trailer::Layout;
 mod reader;
 
 // A part of the book, lent, with the byte where it starts.
+// Stays: all cases hold the same two fields, since the rules of this register name each kind of part with what it holds.
 #[derive(Clone, Copy)]
 pub enum Part<'a> {
     Roles { place: usize, bytes: &'a [u8] },

@@ -19,44 +19,31 @@ returns-in_err-layout c =
       sound = IfOk-from_err c.from_residual.result _ c.from_residual.ensures.0;
     }
 
-pub check_records-requires : goal.check_records-requires
-check_records-requires c = record {
-  size = (length c.args.bytes.now, c.in_ok-layout.ensures.laid);
-  roles_are = c.part-roles.ensures.len;
-  pairs_are = c.part-pairs.ensures.len;
-  concepts_are = c.part-concepts.ensures.len;
-  rules_are = c.part-rules.ensures.len;
-}
-
-pub returns-in_err-check_records : goal.returns-in_err-check_records
-returns-in_err-check_records c =
+pub returns-in_err-check-clause-value : goal.returns-in_err-check-clause-value
+returns-in_err-check-clause-value c =
     let bs = c.args.bytes.now in
     let l = c.in_ok-layout.layout in
-    let a = c.part-roles.result.now in
-    let b = c.part-pairs.result.now in
-    let d = c.part-concepts.result.now in
-    let e = c.part-rules.result.now in
-    let p = err_from_is_err_and c.from_residual-in_err-check_records.result c.from_residual-in_err-check_records.ensures.1 in
-    record {
-      value =
-          ap (answer view record_report) p.1 ∙ ap (λ x. denied (record_report x)) p.2 ∙ c.in_err-check_records.ensures.value
-          ∙ reading_as bs l (sections a b d e) c.in_ok-layout.ensures.value
-          (sections_are bs l a b d e c.part-roles.ensures.value c.part-pairs.ensures.value c.part-concepts.ensures.value c.part-rules.ensures.value);
-      sound = IfOk-from_err c.from_residual-in_err-check_records.result _ c.from_residual-in_err-check_records.ensures.0;
-    }
+    let a = c.part.result.now in
+    let b = c.part-2.result.now in
+    let d = c.part-3.result.now in
+    let e = c.part-4.result.now in
+    let p = err_from_is_err_and c.from_residual-in_err-check.result c.from_residual-in_err-check.ensures.1 in
+    ap (answer view record_report) p.1 ∙ ap (λ x. denied (record_report x)) p.2 ∙ c.in_err-check.ensures.value
+    ∙ reading_as bs l (sections a b d e) c.in_ok-layout.ensures.value
+    (sections_are bs l a b d e c.part.ensures.value c.part-2.ensures.value c.part-3.ensures.value c.part-4.ensures.value)
 
 pub returns : goal.returns
 returns c =
     let bs = c.args.bytes.now in
     let l = c.in_ok-layout.layout in
-    let a = c.part-roles.result.now in
-    let b = c.part-pairs.result.now in
-    let d = c.part-concepts.result.now in
-    let e = c.part-rules.result.now in
+    let a = c.part.result.now in
+    let b = c.part-2.result.now in
+    let d = c.part-3.result.now in
+    let e = c.part-4.result.now in
     record {
       value =
-          ap granted c.stored.ensures ∙ c.in_ok-check_records.ensures.value
+          ap granted c.stored.ensures ∙ c.in_ok-check.ensures.value
           ∙ reading_as bs l (sections a b d e) c.in_ok-layout.ensures.value
-          (sections_are bs l a b d e c.part-roles.ensures.value c.part-pairs.ensures.value c.part-concepts.ensures.value c.part-rules.ensures.value);
+          (sections_are bs l a b d e c.part.ensures.value c.part-2.ensures.value c.part-3.ensures.value c.part-4.ensures.value);
       sound = book_sound c.stored.result;
     }
