@@ -1,5 +1,5 @@
 -- What the layout of a book comes to, case by case.
-use Rattle.std.proofs.Common.{◌≡◌, ℕ, ◌+◌, ◌*◌, ◌<◌, ◌≤◌, Bool, true, false, ◌&&◌, ◌||◌, ltb, leb, List, length, is_some, Some, None, Option, sym, refl, ap, ⊎_elim, arith}
+use Rattle.std.proofs.Common.{◌≡◌, ℕ, ◌+◌, ◌*◌, ◌≤◌, Bool, true, false, ◌&&◌, ◌||◌, ltb, leb, List, length, is_some, Some, None, Option, sym, refl, ap, ⊎_elim, arith}
 use Rattle.std.proofs.lemmas.Bool.{or_parts, and_from, and_left, and_right, le-leb, lt-leb, ltb-false, cond-false, cases_lt}
 use Rattle.denial.specs.Denials.{granted, denied, reported}
 use Rattle.denial.specs.declared.Report.{Report}

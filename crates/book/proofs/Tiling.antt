@@ -5,12 +5,10 @@ use Rattle.std.proofs.lemmas.Bool.{lt-ltb, le-ltb, cases_lt}
 use Rattle.denial.specs.Denials.{Answer, granted, denied, and_then}
 use Rattle.denial.specs.declared.Report.{Report}
 use Rattle.book.specs.declared.trailer.Layout.{Layout}
-use Rattle.book.specs.declared.parts.Stage.{Stage}
-use Rattle.book.specs.declared.parts.Stage.TheVariants.{AtRoles, AtPairs, AtConcepts, AtRules, AtTrailer, AtEnd}
 use Rattle.book.specs.Sections.{Sections}
 use Rattle.book.specs.Layouts.{laying, layout_of, trailer_start, Laid}
 use Rattle.book.specs.Reading.{cut, reading, checking, sections_of}
-use Rattle.book.specs.Pieces.{Kind, Piece, piece, note_at, of_roles, of_pairs, of_concepts, of_rules, of_note, of_trailer, target_of, pieces_from_roles, parts_of, EndToEnd, Tiles}
+use Rattle.book.specs.Pieces.{Kind, Piece, piece, note_at, of_roles, of_pairs, of_concepts, of_rules, of_note, of_trailer, pieces_from_roles, parts_of, EndToEnd, Tiles}
 use Rattle.book.proofs.Layouting.{laid_from}
 
 module _ (bytes : List ℕ) where

@@ -23,6 +23,7 @@ struct Counts {
 }
 
 // A book that was read: a copy of its four sections, every record of them found good.
+// Stays: arrays with counts beside them, since the register takes no heap and copies its book.
 #[derive(Clone, Copy)]
 pub struct Book {
     counts: Counts,

@@ -15,6 +15,7 @@ use denial::RecordDenial;
 const NAMES: u8 = 64;
 
 // The book in the bytes, or the first refusal. What a book that was read says is sound.
+#[tactic(auto, using(crate::proofs::Soundness::book_sound), unfolding(crate::specs::Reading::reading))]
 pub fn read(bytes: &[u8]) -> Result<Book, RecordDenial>
     ensures value { answer view record_report result ≡ reading bytes.now }
     ensures sound { IfOk result (λ b. Sound (says (view b))) }
@@ -113,7 +114,8 @@ fn first_bad_concept(roles: usize, concepts: &[u8]) -> Option<usize>
     ensures value { result ≡ lowest_bad_concept roles concepts.now }
     ensures inside { IfSome result (λ k. k < length concepts.now / 4) }
 {
-    (0..concepts.len() / 4).find(|k| !operands_fit(roles, concepts, *k) || concepts[4 * *k + 3] != 0)
+    (0..concepts.len() / 4).find(|k| !operands_fit(roles, concepts, *k)
+        || concepts[4 * *k + 3] != 0)
 }
 
 // Whether both bytes of record k, of two bytes, are below n.
@@ -154,5 +156,6 @@ fn named_before(concepts: &[u8], i: usize, name: u8) -> bool
     requires { i ≤ length concepts.now / 4 }
     ensures { result ≡ named concepts.now i name }
 {
-    (0..i).any(|j| matches!(Kind::try_from(concepts[4 * j]), Ok(Kind::Name)) && concepts[4 * j + 1] == name)
+    (0..i).any(|j| matches!(Kind::try_from(concepts[4 * j]), Ok(Kind::Name))
+        && concepts[4 * j + 1] == name)
 }

@@ -14,18 +14,18 @@ impl<'a> Parts<'a> {
         ensures parts { coming_of result ≡ parts_of bytes.now }
         ensures tiles { Tiles bytes.now }
     {
-        if let (Ok(_), Ok(layout)) = (read(bytes), read_layout(bytes)) {
+        let (Ok(_), Ok(layout)) = (read(bytes), read_layout(bytes)) else {
             return Parts {
-                bytes,
-                layout,
-                stage: Stage::AtRoles,
+                bytes: &[0; TRAILER],
+                layout: Layout::default(),
+                stage: Stage::AtEnd,
                 at: 0,
             };
-        }
+        };
         Parts {
-            bytes: &[0; TRAILER],
-            layout: Layout::default(),
-            stage: Stage::AtEnd,
+            bytes,
+            layout,
+            stage: Stage::AtRoles,
             at: 0,
         }
     }
