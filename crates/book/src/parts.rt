@@ -18,6 +18,7 @@ pub enum Part<'a> {
 }
 
 // The part that comes next, once the note before it is given.
+// Stays: a reader is plain data that can be copied, so what comes next is a value in it and no closure.
 #[derive(Clone, Copy)]
 enum Stage {
     AtRoles,
