@@ -1,5 +1,5 @@
 -- What the layout of a book comes to, case by case.
-use Rattle.std.proofs.Common.{◌≡◌, ℕ, ◌+◌, ◌*◌, ◌<◌, ◌≤◌, Bool, true, false, ◌&&◌, ◌||◌, ltb, leb, List, length, is_some, Some, None, Option, sym, refl, ap, ⊎_elim, arith}
+use Rattle.std.proofs.Common.{◌≡◌, ℕ, ◌+◌, ◌*◌, ◌≤◌, Bool, true, false, ◌&&◌, ◌||◌, ltb, leb, List, length, is_some, Some, None, Option, sym, refl, ap, ⊎_elim, arith}
 use Rattle.std.proofs.lemmas.Bool.{or_parts, and_from, and_left, and_right, le-leb, lt-leb, ltb-false, cond-false, cases_lt}
 use Rattle.denial.specs.Denials.{granted, denied, reported}
 use Rattle.denial.specs.declared.Report.{Report}
@@ -14,13 +14,9 @@ module _ (bytes : List ℕ) where
   fits : 16 ≤ length bytes → length bytes ≤ 8192 → (leb 16 (length bytes) && leb (length bytes) 8192) ≡ true
   fits p q = and_from (leb 16 (length bytes)) (leb (length bytes) 8192) (le-leb 16 (length bytes) p) (le-leb (length bytes) 8192 q)
 
-  pub laying_short : length bytes < 16 → laying bytes ≡ denied (reported 1 (length bytes) Trailer)
+  pub laying_length : (leb 16 (length bytes) && leb (length bytes) 8192) ≡ false → laying bytes ≡ denied (reported 1 (length bytes) Trailer)
   unfolding laying
-  laying_short p = cond-false _ _ _ (and_left (leb 16 (length bytes)) (leb (length bytes) 8192) (lt-leb 16 (length bytes) p))
-
-  pub laying_long : 8192 < length bytes → laying bytes ≡ denied (reported 1 (length bytes) Trailer)
-  unfolding laying
-  laying_long p = cond-false _ _ _ (and_right (leb 16 (length bytes)) (leb (length bytes) 8192) (lt-leb (length bytes) 8192 p))
+  laying_length e = cond-false _ _ _ e
 
   pub laying_count : 16 ≤ length bytes → length bytes ≤ 8192 → (j : ℕ) → Some j ≡ first 4 (bad_count bytes)
       → laying bytes ≡ denied (reported 2 (trailer_start bytes + 4 * j + 2) Trailer)
@@ -82,8 +78,8 @@ module _ (bytes : List ℕ) where
   -- a layout that is granted is the one of the trailer, and is laid in order
   pub laid_from : (l : Layout) → laying bytes ≡ granted l → (l ≡ layout_of bytes) × Laid (length bytes) (layout_of bytes)
   laid_from l e = ⊎_elim
-      (λ short. never l e (laying_short short))
-      (λ p. ⊎_elim (λ long. never l e (laying_long long)) (λ q. counts p q (first 4 (bad_count bytes)) refl (first 4 (bad_place bytes)) refl) (cases_lt 8192 (length bytes)))
+      (λ short. never l e (laying_length (and_left (leb 16 (length bytes)) (leb (length bytes) 8192) (lt-leb 16 (length bytes) short))))
+      (λ p. ⊎_elim (λ long. never l e (laying_length (and_right (leb 16 (length bytes)) (leb (length bytes) 8192) (lt-leb (length bytes) 8192 long)))) (λ q. counts p q (first 4 (bad_count bytes)) refl (first 4 (bad_place bytes)) refl) (cases_lt 8192 (length bytes)))
       (cases_lt (length bytes) 16)
     where
       counts : 16 ≤ length bytes → length bytes ≤ 8192 → (o : Option ℕ) → first 4 (bad_count bytes) ≡ o → (u : Option ℕ) → first 4 (bad_place bytes) ≡ u

@@ -5,12 +5,10 @@ use Rattle.std.proofs.lemmas.Bool.{lt-ltb, le-ltb, cases_lt}
 use Rattle.denial.specs.Denials.{Answer, granted, denied, and_then}
 use Rattle.denial.specs.declared.Report.{Report}
 use Rattle.book.specs.declared.trailer.Layout.{Layout}
-use Rattle.book.specs.declared.parts.Stage.{Stage}
-use Rattle.book.specs.declared.parts.Stage.TheVariants.{AtRoles, AtPairs, AtConcepts, AtRules, AtTrailer, AtEnd}
 use Rattle.book.specs.Sections.{Sections}
 use Rattle.book.specs.Layouts.{laying, layout_of, trailer_start, Laid}
 use Rattle.book.specs.Reading.{cut, reading, checking, sections_of}
-use Rattle.book.specs.Pieces.{Kind, Piece, piece, note_at, of_roles, of_pairs, of_concepts, of_rules, of_note, of_trailer, target_of, pieces_from_roles, parts_of, EndToEnd, Tiles}
+use Rattle.book.specs.Pieces.{Kind, Piece, piece, note_at, of_roles, of_pairs, of_concepts, of_rules, of_note, of_trailer, pieces_from_roles, parts_of, EndToEnd, Tiles}
 use Rattle.book.proofs.Layouting.{laid_from}
 
 module _ (bytes : List ℕ) where
@@ -73,14 +71,3 @@ module _ (bytes : List ℕ) where
 
   pub tiles : Tiles bytes
   tiles s e = subst (λ ps. EndToEnd 0 ps bytes) (sym (parts_of_read s e)) (tiled (layout_of bytes) (layout_of_read s e))
-
--- the next part that is no note starts within the book
-pub target_within : (bytes : List ℕ) (l : Layout) (at : Stage) → l.roles.place + l.roles.count ≤ l.pairs.place
-    → l.pairs.place + 2 * l.pairs.count ≤ l.concepts.place → l.concepts.place + 4 * l.concepts.count ≤ l.rules.place
-    → l.rules.place + 2 * l.rules.count + 16 ≤ length bytes → target_of bytes l at ≤ length bytes
-target_within bytes l AtRoles a b c d = omega arith
-target_within bytes l AtPairs a b c d = omega arith
-target_within bytes l AtConcepts a b c d = omega arith
-target_within bytes l AtRules a b c d = omega arith
-target_within bytes l AtTrailer a b c d = omega arith
-target_within bytes l AtEnd a b c d = omega arith

@@ -1,5 +1,5 @@
 -- The layout of a book by its trailer, and what is refused of it.
-use Rattle.std.specs.Prelude.{ℕ, ◌+◌, ◌-◌, ◌*◌, ◌≤◌, Bool, cond, ◌&&◌, ◌||◌, List, [], ◌∷◌, length, Some, None, Option, ◌==◌, nat_le, nat_lt, slice_index}
+use Rattle.std.specs.Prelude.{◌≡◌, ℕ, ◌+◌, ◌-◌, ◌*◌, ◌≤◌, Bool, cond, ◌&&◌, ◌||◌, List, [], ◌∷◌, length, Some, None, Option, ◌==◌, nat_le, nat_lt, slice_index}
 use Rattle.denial.specs.declared.Report.{Report}
 use Rattle.denial.specs.declared.Layer.TheVariants.{Trailer}
 use Rattle.denial.specs.Denials.{Answer, granted, denied, reported}
@@ -74,3 +74,11 @@ pub record Laid (size : ℕ) (l : Layout) : Type 0 where
   pub pairs_end : l.pairs.place + 2 * l.pairs.count ≤ l.concepts.place
   pub concepts_end : l.concepts.place + 4 * l.concepts.count ≤ l.rules.place
   pub rules_end : l.rules.place + 2 * l.rules.count + 16 ≤ size
+
+-- four sections of these lengths are those of a layout that was granted: each has as many bytes as its records take
+pub record Whole (l : Layout) (roles pairs concepts rules : ℕ) : Type 0 where
+  pub laid : Laid 8192 l
+  pub roles_are : roles ≡ l.roles.count
+  pub pairs_are : pairs ≡ 2 * l.pairs.count
+  pub concepts_are : concepts ≡ 4 * l.concepts.count
+  pub rules_are : rules ≡ 2 * l.rules.count

@@ -5,3 +5,4 @@ pub mod Reading
 pub mod Views
 pub mod Pieces
 pub mod Coming
+pub mod Kinds

@@ -43,6 +43,15 @@ target_of bytes l AtRules = l.rules.place
 target_of bytes l AtTrailer = trailer_start bytes
 target_of bytes l AtEnd = 0
 
+-- and how many bytes it has
+abbrev pub size_of : Layout → Stage → ℕ
+size_of l AtRoles = l.roles.count
+size_of l AtPairs = 2 * l.pairs.count
+size_of l AtConcepts = 4 * l.concepts.count
+size_of l AtRules = 2 * l.rules.count
+size_of l AtTrailer = 16
+size_of l AtEnd = 0
+
 -- what comes from the byte `at` on: a note, if there are bytes before the next section, then the section, and so on
 module _ (bytes : List ℕ) (l : Layout) where
   abbrev pub pieces_from_trailer : ℕ → List Piece

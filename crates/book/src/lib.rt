@@ -2,8 +2,12 @@
 #![tactic(auto)]
 
 ghost use Rattle.std.specs.Prelude.{◌≡◌, ◌*◌, ◌<◌, ◌≤◌, true, length, take};
+ghost use Rattle.book.specs.Layouts.{Whole};
 ghost use Rattle.book.specs.Records.{faultless};
 
+use crate::trailer::Layout;
+
+mod kind;
 pub mod parts;
 pub mod read;
 mod records;
@@ -19,6 +23,7 @@ struct Counts {
 }
 
 // A book that was read: a copy of its four sections, every record of them found good.
+// Stays: arrays with counts beside them, since the register takes no heap and copies its book.
 #[derive(Clone, Copy)]
 pub struct Book {
     counts: Counts,
@@ -36,4 +41,15 @@ pub struct Book {
     ghost few_entries: { counts.entries ≤ 60 },
     ghost few_rules: { counts.rules ≤ 32 },
     ghost good: { faultless (take counts.roles roles) (take (2 * counts.pairs) pairs) (take (4 * counts.entries) concepts) (take (2 * counts.rules) rules) ≡ true },
+}
+
+// The four sections of a book, lent, with the layout that says where they are.
+#[derive(Clone, Copy)]
+struct Lent<'a> {
+    layout: Layout,
+    roles: &'a [u8],
+    pairs: &'a [u8],
+    concepts: &'a [u8],
+    rules: &'a [u8],
+    ghost whole: { Whole layout (length roles.now) (length pairs.now) (length concepts.now) (length rules.now) },
 }

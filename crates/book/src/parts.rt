@@ -6,6 +6,7 @@ use crate::trailer::Layout;
 mod reader;
 
 // A part of the book, lent, with the byte where it starts.
+// Stays: all cases hold the same two fields, since the rules of this register name each kind of part with what it holds.
 #[derive(Clone, Copy)]
 pub enum Part<'a> {
     Roles { place: usize, bytes: &'a [u8] },
@@ -17,6 +18,7 @@ pub enum Part<'a> {
 }
 
 // The part that comes next, once the note before it is given.
+// Stays: a reader is plain data that can be copied, so what comes next is a value in it and no closure.
 #[derive(Clone, Copy)]
 enum Stage {
     AtRoles,

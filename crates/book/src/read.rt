@@ -1,30 +1,35 @@
 // Reading: the layout by the trailer, then every record of every section.
-ghost use Rattle.std.specs.Prelude.{◌≡◌, ◌+◌, ◌/◌, ◌<◌, ◌≤◌, true, ◌++◌, length, drop, IfSome, IfOk, OnOk};
+ghost use Rattle.std.specs.Prelude.{◌≡◌, ◌+◌, ◌/◌, ◌<◌, ◌≤◌, true, length, take, IfSome, IfOk, OnOk};
 ghost use Rattle.denial.specs.Denials.{answer, record_report};
 ghost use Rattle.meaning.specs.Books.{Sound};
 ghost use Rattle.book.specs.Sections.{says};
 ghost use Rattle.book.specs.Records.{both_within, named, fitting, fitting_at, lowest_bad_role, lowest_unfit, lowest_bad_concept, faultless};
 ghost use Rattle.book.specs.Reading.{cut, checking, reading};
-ghost use Rattle.book.specs.Views.{view, Whole, sections};
+ghost use Rattle.book.specs.Views.{view, held};
 
+use crate::kind::{Kind, UnknownKind};
 use crate::trailer::{Layout, read_layout};
-use crate::{Book, Counts};
+use crate::{Book, Counts, Lent};
 use denial::RecordDenial;
 
 const NAMES: u8 = 64;
 
 // The book in the bytes, or the first refusal. What a book that was read says is sound.
+#[tactic(auto, using(crate::proofs::Soundness::book_sound), unfolding(crate::specs::Reading::reading))]
 pub fn read(bytes: &[u8]) -> Result<Book, RecordDenial>
     ensures value { answer view record_report result ≡ reading bytes.now }
     ensures sound { IfOk result (λ b. Sound (says (view b))) }
 {
     let layout = read_layout(bytes)?;
-    let roles = part(bytes, layout.roles.place, layout.roles.count);
-    let pairs = part(bytes, layout.pairs.place, 2 * layout.pairs.count);
-    let concepts = part(bytes, layout.concepts.place, 4 * layout.concepts.count);
-    let rules = part(bytes, layout.rules.place, 2 * layout.rules.count);
-    check_records(layout, roles, pairs, concepts, rules)?;
-    Ok(stored(layout, roles, pairs, concepts, rules))
+    let lent = Lent {
+        layout,
+        roles: part(bytes, layout.roles.place, layout.roles.count),
+        pairs: part(bytes, layout.pairs.place, 2 * layout.pairs.count),
+        concepts: part(bytes, layout.concepts.place, 4 * layout.concepts.count),
+        rules: part(bytes, layout.rules.place, 2 * layout.rules.count),
+    };
+    lent.check()?;
+    Ok(lent.stored())
 }
 
 // So many bytes from a place on.
@@ -36,80 +41,65 @@ pub(crate) fn part(bytes: &[u8], place: usize, size: usize) -> &[u8]
     &bytes[place..place + size]
 }
 
-// The book of good sections.
-fn stored(layout: Layout, roles: &[u8], pairs: &[u8], concepts: &[u8], rules: &[u8]) -> Book
-    requires whole { Whole layout (length roles.now) (length pairs.now) (length concepts.now) (length rules.now) }
-    requires good { faultless roles.now pairs.now concepts.now rules.now ≡ true }
-    ensures { view result ≡ sections roles.now pairs.now concepts.now rules.now }
-{
-    let counts = Counts {
-        roles: layout.roles.count,
-        pairs: layout.pairs.count,
-        entries: layout.concepts.count,
-        rules: layout.rules.count,
-    };
-    let mut book_roles = [0; 64];
-    put_front(&mut book_roles, roles);
-    let mut book_pairs = [0; 512];
-    put_front(&mut book_pairs, pairs);
-    let mut book_concepts = [0; 240];
-    put_front(&mut book_concepts, concepts);
-    let mut book_rules = [0; 64];
-    put_front(&mut book_rules, rules);
-    Book {
-        counts,
-        roles: book_roles,
-        pairs: book_pairs,
-        concepts: book_concepts,
-        rules: book_rules,
+impl<'a> Lent<'a> {
+    // Refuses at the first bad record.
+    #[tactic(auto, unfolding(crate::specs::Reading::checking, crate::specs::Records::faultless))]
+    fn check(&self) -> Result<(), RecordDenial>
+        ensures value { answer (λ _. held self.now) record_report result ≡ checking self.now.layout (held self.now) }
+        ensures good { OnOk result (faultless self.now.roles.now self.now.pairs.now self.now.concepts.now self.now.rules.now ≡ true) }
+    {
+        let layout = self.layout;
+        if let Some(k) = first_bad_role(self.roles) {
+            return Err(RecordDenial::Role(layout.roles.place + k));
+        }
+        if let Some(k) = first_unfit(self.roles.len(), self.pairs) {
+            return Err(RecordDenial::Pair(layout.pairs.place + 2 * k));
+        }
+        if let Some(k) = first_bad_concept(self.roles.len(), self.concepts) {
+            return Err(RecordDenial::Concept(layout.concepts.place + 4 * k));
+        }
+        if let Some(k) = first_unfit(self.concepts.len() / 4, self.rules) {
+            return Err(RecordDenial::Rule(layout.rules.place + 2 * k));
+        }
+        Ok(())
+    }
+
+    // The book of these sections, where they are good.
+    fn stored(&self) -> Book
+        requires { faultless self.now.roles.now self.now.pairs.now self.now.concepts.now self.now.rules.now ≡ true }
+        ensures { view result ≡ held self.now }
+    {
+        let layout = self.layout;
+        Book {
+            counts: Counts {
+                roles: layout.roles.count,
+                pairs: layout.pairs.count,
+                entries: layout.concepts.count,
+                rules: layout.rules.count,
+            },
+            roles: padded(self.roles),
+            pairs: padded(self.pairs),
+            concepts: padded(self.concepts),
+            rules: padded(self.rules),
+        }
     }
 }
 
-// Writes the bytes over the front.
-fn put_front(all: &mut [u8], bytes: &[u8])
-    requires { length bytes.now ≤ length all.old }
-    ensures { all.new ≡ bytes.now ++ drop (length bytes.now) all.old }
+// The bytes, and zeros after them.
+fn padded<const N: usize>(bytes: &[u8]) -> [u8; N]
+    requires { length bytes.now ≤ N }
+    ensures { take (length bytes.now) result ≡ bytes.now }
 {
-    all[0..bytes.len()].copy_from_slice(bytes);
-}
-
-// Refuses at the first bad record of these sections.
-fn check_records(
-    layout: Layout,
-    roles: &[u8],
-    pairs: &[u8],
-    concepts: &[u8],
-    rules: &[u8],
-) -> Result<(), RecordDenial>
-    requires { Whole layout (length roles.now) (length pairs.now) (length concepts.now) (length rules.now) }
-    ensures value { answer (λ _. sections roles.now pairs.now concepts.now rules.now) record_report result ≡ checking layout (sections roles.now pairs.now concepts.now rules.now) }
-    ensures good { OnOk result (faultless roles.now pairs.now concepts.now rules.now ≡ true) }
-{
-    if let Some(k) = first_bad_role(roles) {
-        return Err(RecordDenial::Role(layout.roles.place + k));
-    }
-    if let Some(k) = first_unfit(roles.len(), pairs) {
-        return Err(RecordDenial::Pair(layout.pairs.place + 2 * k));
-    }
-    if let Some(k) = first_bad_concept(roles.len(), concepts) {
-        return Err(RecordDenial::Concept(layout.concepts.place + 4 * k));
-    }
-    if let Some(k) = first_unfit(concepts.len() / 4, rules) {
-        return Err(RecordDenial::Rule(layout.rules.place + 2 * k));
-    }
-    Ok(())
+    let mut all = [0; N];
+    all[..bytes.len()].copy_from_slice(bytes);
+    all
 }
 
 fn first_bad_role(roles: &[u8]) -> Option<usize>
     ensures value { result ≡ lowest_bad_role roles.now }
     ensures inside { IfSome result (λ k. k < length roles.now) }
 {
-    for k in 0..roles.len() {
-        if roles[k] >= 2 {
-            return Some(k);
-        }
-    }
-    None
+    roles.iter().position(|role| *role >= 2)
 }
 
 // The first record of two bytes that are not both below n.
@@ -124,15 +114,8 @@ fn first_bad_concept(roles: usize, concepts: &[u8]) -> Option<usize>
     ensures value { result ≡ lowest_bad_concept roles concepts.now }
     ensures inside { IfSome result (λ k. k < length concepts.now / 4) }
 {
-    for k in 0..concepts.len() / 4 {
-        if !operands_fit(roles, concepts, k) {
-            return Some(k);
-        }
-        if concepts[4 * k + 3] != 0 {
-            return Some(k);
-        }
-    }
-    None
+    (0..concepts.len() / 4).find(|k| !operands_fit(roles, concepts, *k)
+        || concepts[4 * *k + 3] != 0)
 }
 
 // Whether both bytes of record k, of two bytes, are below n.
@@ -153,22 +136,19 @@ fn operands_fit(roles: usize, concepts: &[u8], i: usize) -> bool
     fits(roles, i, taken, concepts[4 * i], b, concepts[4 * i + 2])
 }
 
+// Whether entry i may have this kind and these operands; `taken` says that an entry before it has the name.
+#[tactic(auto, unfolding(crate::specs::Records::fitting))]
 fn fits(roles: usize, i: usize, taken: bool, kind: u8, b: u8, c: u8) -> bool
     ensures { result ≡ fitting roles i taken kind b c }
 {
-    if kind < 2 {
-        return b == 0 && c == 0;
+    match Kind::try_from(kind) {
+        Ok(Kind::Nothing | Kind::Everything) => b == 0 && c == 0,
+        Ok(Kind::Name) => b < NAMES && c == 0 && !taken,
+        Ok(Kind::Not) => (b as usize) < i && c == 0,
+        Ok(Kind::And | Kind::Or) => (b as usize) < i && (c as usize) < i,
+        Ok(Kind::Exists | Kind::Forall | Kind::NoneOf) => (b as usize) < roles && (c as usize) < i,
+        Err(UnknownKind) => false,
     }
-    if kind == 2 {
-        return b < NAMES && c == 0 && !taken;
-    }
-    if kind == 3 {
-        return (b as usize) < i && c == 0;
-    }
-    if kind < 6 {
-        return (b as usize) < i && (c as usize) < i;
-    }
-    kind < 9 && (b as usize) < roles && (c as usize) < i
 }
 
 // Whether an entry before i has the name.
@@ -176,10 +156,6 @@ fn named_before(concepts: &[u8], i: usize, name: u8) -> bool
     requires { i ≤ length concepts.now / 4 }
     ensures { result ≡ named concepts.now i name }
 {
-    for j in 0..i {
-        if concepts[4 * j] == 2 && concepts[4 * j + 1] == name {
-            return true;
-        }
-    }
-    false
+    (0..i).any(|j| matches!(Kind::try_from(concepts[4 * j]), Ok(Kind::Name))
+        && concepts[4 * j + 1] == name)
 }

@@ -4,6 +4,7 @@ ghost use Rattle.book.specs.Sections.{says, decode};
 ghost use Rattle.book.specs.Views.{view};
 
 use crate::Book;
+use crate::kind::{Kind, UnknownKind};
 use meaning::{Concept, Quantifier, Rule};
 
 impl Book {
@@ -79,18 +80,20 @@ impl Book {
     }
 }
 
+// The concept of a record of this kind, with these operands.
+#[tactic(auto, unfolding(crate::specs::Sections::decode))]
 fn decoded(kind: u8, b: u8, c: u8) -> Concept
     ensures { result ≡ decode kind b c }
 {
-    match kind {
-        1 => Concept::Everything,
-        2 => Concept::Name(b),
-        3 => Concept::Not(b),
-        4 => Concept::And(b, c),
-        5 => Concept::Or(b, c),
-        6 => Concept::Restriction(Quantifier::Exists, b, c),
-        7 => Concept::Restriction(Quantifier::Forall, b, c),
-        8 => Concept::Restriction(Quantifier::NoneOf, b, c),
-        _ => Concept::Nothing,
+    match Kind::try_from(kind) {
+        Ok(Kind::Everything) => Concept::Everything,
+        Ok(Kind::Name) => Concept::Name(b),
+        Ok(Kind::Not) => Concept::Not(b),
+        Ok(Kind::And) => Concept::And(b, c),
+        Ok(Kind::Or) => Concept::Or(b, c),
+        Ok(Kind::Exists) => Concept::Restriction(Quantifier::Exists, b, c),
+        Ok(Kind::Forall) => Concept::Restriction(Quantifier::Forall, b, c),
+        Ok(Kind::NoneOf) => Concept::Restriction(Quantifier::NoneOf, b, c),
+        Ok(Kind::Nothing) | Err(UnknownKind) => Concept::Nothing,
     }
 }

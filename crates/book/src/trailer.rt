@@ -2,18 +2,18 @@
 ghost use Rattle.std.specs.Prelude.{◌≡◌, ◌+◌, ◌<◌, ◌≤◌, length, IfSome, IfOk};
 ghost use Rattle.denial.specs.Denials.{answer, trailer_report};
 ghost use Rattle.meaning.specs.Bounded.{first};
-ghost use Rattle.book.specs.Layouts.{number16, section_from, bad_count, bad_place, laying, Laid};
+ghost use Rattle.book.specs.Layouts.{number16, section_from, end_of, bad_count, bad_place, laying, Laid};
 
 use denial::TrailerDenial;
 
 // A section: the byte where it starts, and how many records it has.
-#[derive(Clone, Copy)]
+#[derive(Clone, Copy, Default)]
 pub struct Section {
     pub place: usize,
     pub count: usize,
 }
 
-#[derive(Clone, Copy)]
+#[derive(Clone, Copy, Default)]
 pub struct Layout {
     pub roles: Section,
     pub pairs: Section,
@@ -25,12 +25,37 @@ pub const TRAILER: usize = 16;
 
 const LONGEST: usize = 8192;
 
+// What a section may be: the least and the most records, and the bytes of one.
+#[derive(Clone, Copy)]
+struct Limits {
+    least: usize,
+    most: usize,
+    width: usize,
+}
+
 // The limits of the four sections: roles, pairs, concepts, rules.
-const LEAST: [usize; 4] = [0, 0, 1, 0];
-
-const MOST: [usize; 4] = [64, 256, 60, 32];
-
-const WIDTH: [usize; 4] = [1, 2, 4, 2];
+const LIMITS: [Limits; 4] = [
+    Limits {
+        least: 0,
+        most: 64,
+        width: 1,
+    },
+    Limits {
+        least: 0,
+        most: 256,
+        width: 2,
+    },
+    Limits {
+        least: 1,
+        most: 60,
+        width: 4,
+    },
+    Limits {
+        least: 0,
+        most: 32,
+        width: 2,
+    },
+];
 
 // The layout of a book, or the first fault in its length, its counts or its places.
 pub fn read_layout(bytes: &[u8]) -> Result<Layout, TrailerDenial>
@@ -38,96 +63,92 @@ pub fn read_layout(bytes: &[u8]) -> Result<Layout, TrailerDenial>
     ensures laid { IfOk result (λ l. Laid (length bytes.now) l) }
 {
     let len = bytes.len();
-    if len < TRAILER {
-        return Err(TrailerDenial::Length(len));
-    }
-    if len > LONGEST {
+    if !(TRAILER..=LONGEST).contains(&len) {
         return Err(TrailerDenial::Length(len));
     }
     let start = len - TRAILER;
-    if let Some(j) = first_bad_count(bytes) {
+    let trailer = Trailer { bytes, start };
+    if let Some(j) = trailer.first_bad_count() {
         return Err(TrailerDenial::Count(start + 4 * j + 2));
     }
-    if let Some(j) = first_bad_place(bytes) {
+    if let Some(j) = trailer.first_bad_place() {
         return Err(TrailerDenial::Place(start + 4 * j));
     }
-    let roles = section_at(bytes, 0);
-    let pairs = section_at(bytes, 1);
-    let concepts = section_at(bytes, 2);
-    let rules = section_at(bytes, 3);
     Ok(Layout {
-        roles,
-        pairs,
-        concepts,
-        rules,
+        roles: trailer.section(0),
+        pairs: trailer.section(1),
+        concepts: trailer.section(2),
+        rules: trailer.section(3),
     })
 }
 
-fn first_bad_count(bytes: &[u8]) -> Option<usize>
-    requires { 16 ≤ length bytes.now }
-    ensures value { result ≡ first 4 (bad_count bytes.now) }
-    ensures inside { IfSome result (λ j. j < 4) }
-{
-    for j in 0..4 {
-        if count_is_bad(bytes, j) {
-            return Some(j);
+// The bytes of a book that has a trailer, and where the trailer starts. Its methods take a section by its number.
+#[derive(Clone, Copy)]
+struct Trailer<'a> {
+    bytes: &'a [u8],
+    start: usize,
+    ghost ends: { start + 16 ≡ length bytes.now },
+}
+
+impl<'a> Trailer<'a> {
+    fn first_bad_count(&self) -> Option<usize>
+        ensures value { result ≡ first 4 (bad_count self.now.bytes.now) }
+        ensures inside { IfSome result (λ j. j < 4) }
+    {
+        (0..4).find(|j| self.count_is_bad(*j))
+    }
+
+    fn count_is_bad(&self, j: usize) -> bool
+        requires { j < 4 }
+        ensures { result ≡ bad_count self.now.bytes.now j }
+    {
+        let Limits { least, most, .. } = LIMITS[j];
+        !(least..=most).contains(&self.section(j).count)
+    }
+
+    fn first_bad_place(&self) -> Option<usize>
+        ensures value { result ≡ first 4 (bad_place self.now.bytes.now) }
+        ensures inside { IfSome result (λ j. j < 4) }
+    {
+        (0..4).find(|j| self.place_is_bad(*j))
+    }
+
+    // Whether a section starts before the one before it ends, or runs into the trailer as the last one.
+    fn place_is_bad(&self, j: usize) -> bool
+        requires { j < 4 }
+        ensures { result ≡ bad_place self.now.bytes.now j }
+    {
+        j > 0 && self.section(j).place < self.end(j - 1) || j == 3 && self.start < self.end(j)
+    }
+
+    // Where a section ends.
+    fn end(&self, j: usize) -> usize
+        requires { j < 4 }
+        ensures { result ≡ end_of self.now.bytes.now j }
+    {
+        let Section { place, count } = self.section(j);
+        place + LIMITS[j].width * count
+    }
+
+    fn section(&self, j: usize) -> Section
+        requires { j < 4 }
+        ensures value { result ≡ section_from self.now.bytes.now j }
+        ensures place { result.place < 65536 }
+        ensures count { result.count < 65536 }
+    {
+        let at = self.start + 4 * j;
+        Section {
+            place: self.number(at),
+            count: self.number(at + 2),
         }
     }
-    None
-}
 
-fn count_is_bad(bytes: &[u8], j: usize) -> bool
-    requires { (16 ≤ length bytes.now) × (j < 4) }
-    ensures { result ≡ bad_count bytes.now j }
-{
-    let count = section_at(bytes, j).count;
-    count < LEAST[j] || count > MOST[j]
-}
-
-fn first_bad_place(bytes: &[u8]) -> Option<usize>
-    requires { 16 ≤ length bytes.now }
-    ensures value { result ≡ first 4 (bad_place bytes.now) }
-    ensures inside { IfSome result (λ j. j < 4) }
-{
-    for j in 0..4 {
-        if place_is_bad(bytes, j) {
-            return Some(j);
-        }
+    // The 16-bit number at a byte, the low byte first.
+    fn number(&self, at: usize) -> usize
+        requires { at + 1 < length self.now.bytes.now }
+        ensures value { result ≡ number16 self.now.bytes.now at }
+        ensures small { result < 65536 }
+    {
+        u16::from_le_bytes([self.bytes[at], self.bytes[at + 1]]) as usize
     }
-    None
-}
-
-fn place_is_bad(bytes: &[u8], j: usize) -> bool
-    requires { (16 ≤ length bytes.now) × (j < 4) }
-    ensures { result ≡ bad_place bytes.now j }
-{
-    let here = section_at(bytes, j);
-    if j > 0 {
-        let before = section_at(bytes, j - 1);
-        if here.place < before.place + WIDTH[j - 1] * before.count {
-            return true;
-        }
-    }
-    j == 3 && bytes.len() - TRAILER < here.place + WIDTH[j] * here.count
-}
-
-fn section_at(bytes: &[u8], j: usize) -> Section
-    requires { (16 ≤ length bytes.now) × (j < 4) }
-    ensures value { result ≡ section_from bytes.now j }
-    ensures place { result.place < 65536 }
-    ensures count { result.count < 65536 }
-{
-    let at = bytes.len() - TRAILER + 4 * j;
-    let place = number(bytes, at);
-    let count = number(bytes, at + 2);
-    Section { place, count }
-}
-
-// The 16-bit number at a byte, the low byte first.
-fn number(bytes: &[u8], at: usize) -> usize
-    requires { at + 1 < length bytes.now }
-    ensures value { result ≡ number16 bytes.now at }
-    ensures small { result < 65536 }
-{
-    bytes[at] as usize + 256 * bytes[at + 1] as usize
 }

@@ -27,6 +27,7 @@ pub fn draw<W: World>(world: &W, roles: u8, words: &mut [u64]) -> Result<usize, 
     'names: for (n, word) in words[1..ROWS].iter_mut().enumerate() {
         *word = bearers(world, n);
     }
+    // Stays: by the role's number, as the contract of `chunks_exact_mut` does not say what the words are afterwards.
     'roles: for r in 0..roles {
         let first = ROWS + r * m;
         'individuals: for (x, row) in words[first..first + m].iter_mut().enumerate() {

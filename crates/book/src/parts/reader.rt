@@ -1,12 +1,12 @@
 // Going through the parts of a book.
-ghost use Rattle.std.specs.Prelude.{◌≡◌, length};
-ghost use Rattle.book.specs.Pieces.{parts_of, Tiles, target_of};
+ghost use Rattle.std.specs.Prelude.{◌≡◌, ◌+◌, ◌≤◌, length};
+ghost use Rattle.book.specs.Pieces.{parts_of, Tiles, target_of, size_of};
 ghost use Rattle.book.specs.Coming.{coming_of, Yields};
 ghost use Rattle.std.specs.Iterator.{at_most};
 
 use crate::parts::{Part, Parts, Stage};
 use crate::read::{part, read};
-use crate::trailer::{Layout, Section, TRAILER, read_layout};
+use crate::trailer::{Layout, TRAILER, read_layout};
 
 impl<'a> Parts<'a> {
     // The parts of a book; none where reading refuses it. Laid end to end they are the book.
@@ -14,42 +14,41 @@ impl<'a> Parts<'a> {
         ensures parts { coming_of result ≡ parts_of bytes.now }
         ensures tiles { Tiles bytes.now }
     {
-        if let Ok(_) = read(bytes) {
-            if let Ok(layout) = read_layout(bytes) {
-                return Parts {
-                    bytes,
-                    layout,
-                    stage: Stage::AtRoles,
-                    at: 0,
-                };
-            }
-        }
-        let none = Section { place: 0, count: 0 };
-        let layout = Layout {
-            roles: none,
-            pairs: none,
-            concepts: none,
-            rules: none,
+        let (Ok(_), Ok(layout)) = (read(bytes), read_layout(bytes)) else {
+            return Parts {
+                bytes: &[0; TRAILER],
+                layout: Layout::default(),
+                stage: Stage::AtEnd,
+                at: 0,
+            };
         };
         Parts {
-            bytes: &[0; TRAILER],
+            bytes,
             layout,
-            stage: Stage::AtEnd,
+            stage: Stage::AtRoles,
             at: 0,
         }
     }
 
-    // Where the next part that is no note starts; 0 at the end.
-    fn target(&self) -> usize
-        ensures { result ≡ target_of self.now.bytes.now self.now.layout self.now.stage }
+    // Where the next part that is no note starts, and how many bytes it has; 0 and 0 at the end.
+    fn target(&self) -> (usize, usize)
+        ensures place { result.0 ≡ target_of self.now.bytes.now self.now.layout self.now.stage }
+        ensures size { result.1 ≡ size_of self.now.layout self.now.stage }
+        ensures inside { result.0 + result.1 ≤ length self.now.bytes.now }
     {
+        let Layout {
+            roles,
+            pairs,
+            concepts,
+            rules,
+        } = self.layout;
         match self.stage {
-            Stage::AtRoles => self.layout.roles.place,
-            Stage::AtPairs => self.layout.pairs.place,
-            Stage::AtConcepts => self.layout.concepts.place,
-            Stage::AtRules => self.layout.rules.place,
-            Stage::AtTrailer => self.bytes.len() - TRAILER,
-            Stage::AtEnd => 0,
+            Stage::AtRoles => (roles.place, roles.count),
+            Stage::AtPairs => (pairs.place, 2 * pairs.count),
+            Stage::AtConcepts => (concepts.place, 4 * concepts.count),
+            Stage::AtRules => (rules.place, 2 * rules.count),
+            Stage::AtTrailer => (self.bytes.len() - TRAILER, TRAILER),
+            Stage::AtEnd => (0, 0),
         }
     }
 
@@ -57,65 +56,27 @@ impl<'a> Parts<'a> {
     pub fn advance(&mut self) -> Option<Part<'a>>
         ensures { Yields (coming_of self.old) result (coming_of self.new) }
     {
-        let bytes = self.bytes;
         let at = self.at;
-        let target = self.target();
-        if at < target {
-            self.at = target;
+        let (place, size) = self.target();
+        if at < place {
+            self.at = place;
             return Some(Part::Note {
                 place: at,
-                bytes: part(bytes, at, target - at),
+                bytes: part(self.bytes, at, place - at),
             });
         }
-        let layout = self.layout;
-        match self.stage {
-            Stage::AtRoles => {
-                let Section { place, count } = layout.roles;
-                self.stage = Stage::AtPairs;
-                self.at = place + count;
-                Some(Part::Roles {
-                    place,
-                    bytes: part(bytes, place, count),
-                })
-            }
-            Stage::AtPairs => {
-                let Section { place, count } = layout.pairs;
-                self.stage = Stage::AtConcepts;
-                self.at = place + 2 * count;
-                Some(Part::Pairs {
-                    place,
-                    bytes: part(bytes, place, 2 * count),
-                })
-            }
-            Stage::AtConcepts => {
-                let Section { place, count } = layout.concepts;
-                self.stage = Stage::AtRules;
-                self.at = place + 4 * count;
-                Some(Part::Concepts {
-                    place,
-                    bytes: part(bytes, place, 4 * count),
-                })
-            }
-            Stage::AtRules => {
-                let Section { place, count } = layout.rules;
-                self.stage = Stage::AtTrailer;
-                self.at = place + 2 * count;
-                Some(Part::Rules {
-                    place,
-                    bytes: part(bytes, place, 2 * count),
-                })
-            }
-            Stage::AtTrailer => {
-                let place = target;
-                self.stage = Stage::AtEnd;
-                self.at = bytes.len();
-                Some(Part::Trailer {
-                    place,
-                    bytes: part(bytes, place, TRAILER),
-                })
-            }
-            Stage::AtEnd => None,
-        }
+        let bytes = part(self.bytes, place, size);
+        let (given, next) = match self.stage {
+            Stage::AtRoles => (Part::Roles { place, bytes }, Stage::AtPairs),
+            Stage::AtPairs => (Part::Pairs { place, bytes }, Stage::AtConcepts),
+            Stage::AtConcepts => (Part::Concepts { place, bytes }, Stage::AtRules),
+            Stage::AtRules => (Part::Rules { place, bytes }, Stage::AtTrailer),
+            Stage::AtTrailer => (Part::Trailer { place, bytes }, Stage::AtEnd),
+            Stage::AtEnd => return None,
+        };
+        self.stage = next;
+        self.at = place + size;
+        Some(given)
     }
 }
 

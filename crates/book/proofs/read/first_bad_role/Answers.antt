@@ -1,20 +1,10 @@
-use Rattle.std.proofs.Common.{not, length, get_or, sym, ap, arith}
-use Rattle.meaning.proofs.Firsts.{first_some, first_none}
-use Rattle.std.proofs.lemmas.Bool.{le-ltb}
-use Rattle.book.specs.Records.{bad_role}
+use Rattle.std.proofs.Common.{◌≡◌, ℕ, true, false, not, ltb, rules}
+use Rattle.std.proofs.lemmas.Iterator.{YieldsList-from_slice, IsFirst-from_position}
+use Rattle.book.proofs.Positions.{first_position}
 use Rattle.book.proofs.read.first_bad_role.Goals as goal
 
-pub returns-then-roles-k-ge2 : goal.returns-then-roles-k-ge2
-returns-then-roles-k-ge2 c =
-    let rs = c.args.roles.now in
-    let k = c.loop-k.k in
-    record {
-      value = sym (first_some (length rs) k (bad_role rs) (omega arith) c.loop-k.invariant (ap not (le-ltb (get_or rs k 0) 2 c.if-roles-k-ge2.true)));
-      inside = omega arith;
-    }
-
-pub returns : goal.returns
-returns c = record {
-  value = sym (first_none (length c.args.roles.now) (bad_role c.args.roles.now) (λ k h. c.loop-k.invariant k (omega arith)));
-  inside = tt;
-}
+pub returns-clause-value : goal.returns-clause-value
+returns-clause-value c =
+    let p = λ (role : ℕ). not (ltb role 2) in
+    first_position c.args.roles.now p _
+    (IsFirst-from_position _ _ _ (λ x. p x ≡ true) (λ x. p x ≡ false) c.position.ensures.ran (YieldsList-from_slice c.args.roles.now cc) (λ x q e. search rules) (λ x q e. search rules))

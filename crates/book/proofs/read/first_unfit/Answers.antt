@@ -1,4 +1,4 @@
-use Rattle.std.proofs.Common.{◌/◌, not, length, sym, ap, ◌∙◌, rules}
+use Rattle.std.proofs.Common.{◌/◌, length, rules}
 use Rattle.std.proofs.lemmas.Iterator.{first_from_Range}
 use Rattle.meaning.proofs.Firsts.{first_found}
 use Rattle.book.specs.Records.{unfit}
