@@ -1,5 +1,7 @@
 -- Rounds over the pairs end at the set of what told inclusions lead to.
-use Rattle.std.proofs.Common.{◌≡◌, ℕ, zero, suc, ◌+◌, ◌*◌, ◌/◌, ◌^◌, ◌<◌, ◌≤◌, true, false, List, length, get_or, Decides, sym, refl, ap, ◌∙◌, subst, inr, ⊎_elim, add-one, arith}
+use Rattle.std.proofs.Common.{◌≡◌, ℕ, zero, suc, ◌+◌, ◌*◌, ◌/◌, ◌^◌, ◌<◌, ◌≤◌, true, false, List, [], length, get_or, drop, Decides, sym, refl, ap, ◌∙◌, subst, inr, ⊎_elim, add-one, arith}
+use Rattle.std.specs.Simd.{first_chunks}
+use Rattle.std.proofs.lemmas.List.{get_or-take, get_or-drop}
 use lib.Bits.{bit_or, or_add_and, and_le_r}
 use Rattle.std.proofs.lemmas.Bool.{cases_eq, cond_both, cond-true, cond-false, or_cases, or_left, or_right, eqb-true, eq-eqb}
 use Rattle.words.specs.Sets.{has}
@@ -10,6 +12,20 @@ use Rattle.roles.specs.Told.{told}
 use Rattle.roles.specs.Closure.{Leads}
 use Rattle.roles.specs.Rounds.{followed, round_to}
 use Rattle.roles.proofs.Closures.{told_some, told_at}
+
+-- the bytes taken two by two are the pairs
+pair_byte : (n k i j : ℕ) (bytes : List ℕ) → k < n → i < 2 → j ≡ 2 * k + i → get_or (get_or (first_chunks 2 n bytes) k []) i 0 ≡ get_or bytes j 0
+pair_byte zero k i j bytes l m e = absurd (omega arith)
+pair_byte (suc n) zero i j bytes l m e = get_or-take 2 bytes i 0 m ∙ ap (λ x. get_or bytes x 0) (omega arith)
+pair_byte (suc n) (suc k) i j bytes l m e =
+    pair_byte n k i (2 * k + i) (drop 2 bytes) (omega arith) m refl ∙ get_or-drop 2 bytes (2 * k + i) 0 ∙ ap (λ x. get_or bytes x 0) (omega arith)
+
+pub pair_at : (bytes : List ℕ) (pairs : List (List ℕ)) (k : ℕ) → pairs ≡ first_chunks 2 (length bytes / 2) bytes → k < length bytes / 2
+    → (get_or (get_or pairs k []) 0 0 ≡ get_or bytes (2 * k) 0) × (get_or (get_or pairs k []) 1 0 ≡ get_or bytes (2 * k + 1) 0)
+pair_at bytes pairs k e l = rw e (
+  pair_byte (length bytes / 2) k 0 (2 * k) bytes l (omega arith) (omega arith),
+  pair_byte (length bytes / 2) k 1 (2 * k + 1) bytes l (omega arith) refl,
+)
 
 or_above : (a b : ℕ) → a ≤ bit_or a b
 or_above a b = omega (arith, or_add_and a b, and_le_r a b)

@@ -9,35 +9,19 @@ use meaning::{Hierarchy, Order};
 fn row<H: Hierarchy>(h: &H, r: usize) -> u64
     ensures { (s : ℕ) → has result s ≡ H.Order.under h.now r s }
 {
-    let mut set = 0;
-    'roles: for s in 0..h.count() {
-        if h.below(r, s) {
-            set = words::insert(set, s);
-        }
-    }
-    set
+    words::collect(h.count(), |s| h.below(r, s))
 }
 
 // A row for each role.
 pub fn rows<H: Hierarchy>(h: &H) -> [u64; 64]
     ensures { (r s : ℕ) → related result r s ≡ H.Order.under h.now r s }
 {
-    let mut rows = [0u64; 64];
-    'roles: for r in 0..h.count() {
-        rows[r] = row(h, r);
-    }
-    rows
+    words::tabulate(|r| row(h, r))
 }
 
 // The set of the transitive roles.
 pub fn marks<H: Hierarchy>(h: &H) -> u64
     ensures { (r : ℕ) → has result r ≡ (nat_lt r (H.Order.size h.now) && H.Hierarchy.passing h.now r) }
 {
-    let mut set = 0;
-    'roles: for r in 0..h.count() {
-        if h.transitive(r) {
-            set = words::insert(set, r);
-        }
-    }
-    set
+    words::collect(h.count(), |r| h.transitive(r))
 }

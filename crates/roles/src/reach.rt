@@ -10,12 +10,11 @@ fn round(pairs: &[u8], set: u64) -> u64
     requires { Inside 64 pairs.now }
     ensures { result ≡ round_to pairs.now (length pairs.now / 2) set }
 {
+    let (told, _) = pairs.as_chunks::<2>();
     let mut found = set;
-    for k in 0..pairs.len() / 2 {
-        let lower = pairs[2 * k] as usize;
-        let upper = pairs[2 * k + 1] as usize;
-        if words::member(found, lower) {
-            found = words::insert(found, upper);
+    for [lower, upper] in told {
+        if words::member(found, *lower as usize) {
+            found = words::insert(found, *upper as usize);
         }
     }
     found
@@ -23,7 +22,8 @@ fn round(pairs: &[u8], set: u64) -> u64
 
 // The set of the roles to which told inclusions lead from r, r among them: rounds until one adds nothing.
 pub fn reach(pairs: &[u8], r: usize) -> u64
-    requires { (Inside 64 pairs.now) × (r < 64) }
+    requires inside { Inside 64 pairs.now }
+    requires role { r < 64 }
     ensures { (s : ℕ) → Decides (has result s) (Leads pairs.now r s) }
 {
     let mut set = words::single(r);

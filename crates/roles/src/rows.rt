@@ -3,16 +3,17 @@ ghost use Rattle.std.specs.Prelude.{◌≡◌, ℕ, ◌<◌, ◌≤◌, ◌&&◌
 ghost use Rattle.words.specs.Sets.{has};
 ghost use Rattle.meaning.specs.Orders.{Lawful};
 ghost use Rattle.book.specs.Views.{view};
-ghost use Rattle.roles.specs.Told.{Inside, marked};
+ghost use Rattle.roles.specs.Told.{marked};
 ghost use Rattle.roles.specs.Closure.{closure, Below};
 ghost use Rattle.roles.specs.Rows.{related, lawful_known};
 
 use crate::asked;
-use crate::reach::reach;
+use crate::told::Told;
 use book::Book;
 use meaning::{Hierarchy, Order};
 
 // Row r is the set of the roles that r is below; the rows from the count on are empty. The marks are the transitive roles.
+// Stays: the library takes no heap, so the rows are a fixed array, with the count of the roles beside it.
 #[derive(Clone, Copy)]
 pub struct Rows {
     count: usize,
@@ -30,12 +31,11 @@ impl Rows {
         ensures chains { (r s : ℕ) → Decides (related result.rows r s) (Below (length (view book.now).roles) (view book.now).pairs r s) }
         ensures transitive { (r : ℕ) → has result.marks r ≡ (nat_lt r (length (view book.now).roles) && marked (view book.now).roles r) }
     {
-        let roles = book.roles();
-        let count = roles.len();
+        let told = Told::new(book);
         Rows {
-            count,
-            rows: closure_rows(book.pairs(), count),
-            marks: marks(roles),
+            count: told.count(),
+            rows: words::tabulate(|r| told.row(r)),
+            marks: asked::marks(&told),
         }
     }
 
@@ -65,10 +65,7 @@ impl Order for Rows {
     }
 
     fn below(&self, r: usize, s: usize) -> bool {
-        if r < self.count && s < self.count {
-            return words::member(self.rows[r], s);
-        }
-        false
+        r < self.count && s < self.count && words::member(self.rows[r], s)
     }
 }
 
@@ -78,30 +75,4 @@ impl Hierarchy for Rows {
     fn transitive(&self, r: usize) -> bool {
         r < self.count && words::member(self.marks, r)
     }
-}
-
-// The rows of the closure of told inclusions.
-fn closure_rows(pairs: &[u8], count: usize) -> [u64; 64]
-    requires { (count ≤ 64) × (Inside count pairs.now) }
-    ensures { (r s : ℕ) → related result r s ≡ closure count pairs.now r s }
-{
-    let mut rows = [0u64; 64];
-    'roles: for r in 0..count {
-        rows[r] = reach(pairs, r);
-    }
-    rows
-}
-
-// The set of the roles whose record says that they are transitive.
-fn marks(roles: &[u8]) -> u64
-    requires { length roles.now ≤ 64 }
-    ensures { (r : ℕ) → has result r ≡ (nat_lt r (length roles.now) && marked roles.now r) }
-{
-    let mut set = 0;
-    'roles: for r in 0..roles.len() {
-        if roles[r] == 1 {
-            set = words::insert(set, r);
-        }
-    }
-    set
 }

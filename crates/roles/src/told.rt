@@ -1,5 +1,6 @@
 // The told inclusions of a book as a hierarchy: the pairs are followed at each question.
-ghost use Rattle.std.specs.Prelude.{◌≡◌, ◌<◌, ◌≤◌, ◌&&◌, length, Decides};
+ghost use Rattle.std.specs.Prelude.{◌≡◌, ℕ, ◌<◌, ◌≤◌, ◌&&◌, length, Decides};
+ghost use Rattle.words.specs.Sets.{has};
 ghost use Rattle.book.specs.Views.{view};
 ghost use Rattle.roles.specs.Told.{Inside, marked};
 ghost use Rattle.roles.specs.Closure.{closure, closure_law, Below};
@@ -7,6 +8,9 @@ ghost use Rattle.roles.specs.Closure.{closure, closure_law, Below};
 use crate::reach::reach;
 use book::Book;
 use meaning::{Hierarchy, Order};
+
+// What the record of a transitive role is: a byte of the book's format.
+const TRANSITIVE: u8 = 1;
 
 // The role section and the pair section of a book, lent.
 #[derive(Clone, Copy)]
@@ -27,6 +31,17 @@ impl<'a> Told<'a> {
             pairs: book.pairs(),
         }
     }
+
+    // The set of the roles that r is below: those to which told inclusions lead. No roles where r is out of range.
+    pub(crate) fn row(&self, r: usize) -> u64
+        ensures { (s : ℕ) → has result s ≡ closure (length self.now.roles.now) self.now.pairs.now r s }
+    {
+        if r < self.roles.len() {
+            reach(self.pairs, r)
+        } else {
+            0
+        }
+    }
 }
 
 impl<'a> Order for Told<'a> {
@@ -45,10 +60,7 @@ impl<'a> Order for Told<'a> {
         ensures value { result ≡ closure (length self.now.roles.now) self.now.pairs.now r s }
         ensures chains { Decides result (Below (length self.now.roles.now) self.now.pairs.now r s) }
     {
-        if r < self.roles.len() && s < self.roles.len() {
-            return words::member(reach(self.pairs, r), s);
-        }
-        false
+        s < self.roles.len() && words::member(self.row(r), s)
     }
 }
 
@@ -56,6 +68,6 @@ impl<'a> Hierarchy for Told<'a> {
     ghost passing = { λ x. marked x.roles.now };
 
     fn transitive(&self, r: usize) -> bool {
-        r < self.roles.len() && self.roles[r] == 1
+        r < self.roles.len() && self.roles[r] == TRANSITIVE
     }
 }

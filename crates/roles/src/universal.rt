@@ -1,5 +1,5 @@
 // A universal role over any hierarchy.
-ghost use Rattle.std.specs.Prelude.{◌≡◌, IfOk, if◌then◌else◌, nat_lt};
+ghost use Rattle.std.specs.Prelude.{◌≡◌, ◌<◌, IfOk, if◌then◌else◌, nat_lt};
 ghost use Rattle.denial.specs.Denials.{answer, granted, denied, reported, denial_report};
 ghost use Rattle.denial.specs.declared.Layer.TheVariants.{Register};
 ghost use Rattle.meaning.specs.Universal.{universal_size, universal_under, universal_passing, universal_law, AddsUniversal};
@@ -15,6 +15,7 @@ const ROLES: usize = 64;
 #[derive(Drop)]
 pub struct Universal<'h, H: Hierarchy> {
     base: &'h H,
+    ghost room: { H.Order.size base.now < 64 },
 }
 
 impl<'h, H: Hierarchy> Universal<'h, H> {
@@ -25,9 +26,10 @@ impl<'h, H: Hierarchy> Universal<'h, H> {
     {
         let n = base.count();
         if n < ROLES {
-            return Ok(Universal { base });
+            Ok(Universal { base })
+        } else {
+            Err(Denial::RoleCount(n))
         }
-        Err(Denial::RoleCount(n))
     }
 }
 
@@ -39,16 +41,16 @@ impl<'h, H: Hierarchy> Order for Universal<'h, H> {
     ghost lawful = { λ x. universal_law (H.Order.size x.base.now) (H.Order.under x.base.now) (H.Order.lawful x.base.now) };
 
     fn count(&self) -> usize {
-        let n = self.base.count();
-        if n < ROLES { n + 1 } else { ROLES }
+        self.base.count() + 1
     }
 
     fn below(&self, r: usize, s: usize) -> bool {
         let n = self.base.count();
-        if n < ROLES && s == n {
-            return r <= n;
+        if s == n {
+            r <= n
+        } else {
+            self.base.below(r, s)
         }
-        self.base.below(r, s)
     }
 }
 
@@ -56,10 +58,6 @@ impl<'h, H: Hierarchy> Hierarchy for Universal<'h, H> {
     ghost passing = { λ x. universal_passing (H.Order.size x.base.now) (H.Hierarchy.passing x.base.now) };
 
     fn transitive(&self, r: usize) -> bool {
-        let n = self.base.count();
-        if n < ROLES && r == n {
-            return true;
-        }
-        self.base.transitive(r)
+        r == self.base.count() || self.base.transitive(r)
     }
 }

@@ -1,13 +1,10 @@
-use Rattle.std.proofs.Common.{arith}
-use Rattle.roles.proofs.Filling.{set_none, set_all}
+use Rattle.std.proofs.Common.{◌∙◌, ap, ltb, ◌&&◌, rules}
+use Rattle.roles.proofs.Filling.{bounded}
 use Rattle.roles.proofs.asked.row.Goals as goal
 
-pub roles-init : goal.roles-init
-roles-init g c = set_none (g.H.Order.under c.args.h.now c.args.r)
-
 pub returns : goal.returns
-returns g c =
-    let h = c.args.h.now in
-    let r = c.args.r in
-    set_all (g.H.Order.size h) c.roles.s c.roles.set (g.H.Order.under h r) (λ s e. ((g.H.Order.lawful h).within r s e).1)
-    (omega (arith, c.count-s-end.ensures)) c.roles.invariant
+returns g c s =
+    let u = g.H.Order.under c.args.h.now c.args.r in
+    c.collect.ensures.members u (λ k b l e. search rules) s
+    ∙ ap (λ n. ltb s n && u s) c.count.ensures
+    ∙ bounded (g.H.Order.size c.args.h.now) u (λ j e. ((g.H.Order.lawful c.args.h.now).within c.args.r j e).1) s

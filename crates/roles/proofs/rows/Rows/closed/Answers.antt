@@ -1,32 +1,35 @@
-use Rattle.std.proofs.Common.{◌≡◌, ℕ, ◌&&◌, ltb, length, ap, ◌∙◌, subst}
-use Rattle.book.specs.Views.{view}
-use Rattle.roles.specs.Told.{Inside, marked}
+use Rattle.std.proofs.Common.{◌≡◌, ℕ, length, rules, sym, subst}
+use Rattle.meaning.specs.Orders.{Lawful}
 use Rattle.roles.specs.Closure.{closure, closure_law}
 use Rattle.roles.specs.Rows.{related}
 use Rattle.roles.proofs.Closures.{closure_told}
-use Rattle.roles.proofs.Filling.{lawful_like}
+use Rattle.roles.proofs.Filling.{rows_all, lawful_like}
 use Rattle.roles.proofs.rows.Rows.closed.Goals as goal
+use Rattle.roles.proofs.rows.Rows.closed.Goals.{After-marks}
+
+-- the rows are those of the told inclusions
+rows_are : (c : After-marks) → (r s : ℕ) → related c.tabulate.result r s ≡ closure (length c.new-told.result.roles.now) c.new-told.result.pairs.now r s
+rows_are c =
+    let x = c.new-told.result in
+    let n = length x.roles.now in
+    rows_all n (closure n x.pairs.now) c.tabulate.result (search rules) (closure_law n x.pairs.now x.few) (λ r s l. let e = c.tabulate.ensures r l in search rules)
 
 pub invariant_of-result : goal.invariant_of-result
 invariant_of-result c =
-    let n = length c.roles-roles.result.now in
-    let pairs = c.pairs.result.now in
-    let few = c.roles-roles.ensures.few in
-    record { few = few; law = ∣ lawful_like n (related c.closure_rows.result) (closure n pairs) c.closure_rows.ensures (closure_law n pairs few) ∣₁ }
+    let x = c.new-told.result in
+    let n = length x.roles.now in
+    let rows = related c.tabulate.result in
+    let law = lawful_like n rows (closure n x.pairs.now) (rows_are c) (closure_law n x.pairs.now x.few) in
+    record { few = search rules; law = ∣ subst (λ m. Lawful m rows) (sym c.count.ensures) law ∣₁ }
 
 pub returns : goal.returns
 returns c =
-    let roles = (view c.args.book.now).roles in
-    let pairs = (view c.args.book.now).pairs in
-    let rows = c.closure_rows.result in
-    let same = c.roles-roles.ensures.value in
-    let inside : Inside (length roles) pairs = subst (λ z. Inside (length roles) z) c.pairs.ensures.value c.pairs.ensures.inside in
-    let is : (r s : ℕ) → related rows r s ≡ closure (length roles) pairs r s =
-    λ r s. c.closure_rows.ensures r s ∙ ap (λ z. closure (length z) c.pairs.result.now r s) same
-    ∙ ap (λ z. closure (length roles) z r s) c.pairs.ensures.value in
-    record {
-      count = ap length same;
+    let x = c.new-told.result in
+    let e = c.new-told.ensures in
+    let is = rows_are (goal.at.returns c).After-marks in
+    rw (sym e.roles) (rw (sym e.pairs) (record {
+      count = c.count.ensures;
       relation = is;
-      chains = λ r s. closure_told (length roles) pairs inside r s (related rows r s) (is r s);
-      transitive = λ r. c.marks.ensures r ∙ ap (λ z. ltb r (length z) && marked z r) same;
-    }
+      chains = λ r s. closure_told (length x.roles.now) x.pairs.now x.inside r s (related c.tabulate.result r s) (is r s);
+      transitive = c.marks.ensures;
+    }))

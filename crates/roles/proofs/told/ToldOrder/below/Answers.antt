@@ -1,28 +1,15 @@
-use Rattle.std.proofs.Common.{◌≡◌, false, length, ◌∙◌, arith}
-use Rattle.roles.specs.Closure.{closure}
-use Rattle.roles.proofs.Closures.{row_is, closure_out, closure_told}
+use Rattle.std.proofs.Common.{length, ◌∙◌, arith}
+use Rattle.std.proofs.lemmas.Bool.{le-ltb}
+use Rattle.roles.proofs.Closures.{closure_out, closure_told}
 use Rattle.roles.proofs.told.ToldOrder.below.Goals as goal
-use Rattle.roles.proofs.told.ToldOrder.below.Goals.{else-r-self-via-then-r-self+else-s-self, else-r-self-via-else-r-self}
 
-pub returns-then-s-self : goal.returns-then-s-self
-returns-then-s-self c =
+pub returns-then-s-self-clause-chains : goal.returns-then-s-self-clause-chains
+returns-then-s-self-clause-chains c =
     let x = c.args.self.now in
-    let n = length x.roles.now in
-    let pairs = x.pairs.now in
-    let r = c.args.r in
-    let s = c.args.s in
-    let e = c.member.ensures ∙ row_is n pairs x.inside r c.reach.result c.if-r-self.true c.reach.ensures s in
-    record { value = e; chains = closure_told n pairs x.inside r s c.member.result e }
+    closure_told (length x.roles.now) x.pairs.now x.inside c.args.r c.args.s c.member.result (c.member.ensures ∙ c.row.ensures c.args.s)
 
-pub returns : goal.returns
-returns c =
+pub returns-else-s-self-clause-value : goal.returns-else-s-self-clause-value
+returns-else-s-self-clause-value c =
     let x = c.args.self.now in
-    let n = length x.roles.now in
-    let pairs = x.pairs.now in
-    let r = c.args.r in
-    let s = c.args.s in
-    let e : false ≡ closure n pairs r s = closure_out n pairs r s (λ p q. elim c.else-r-self.branch [
-      | else-r-self-via-then-r-self+else-s-self w ↦ omega (arith, w.if-s-self.false)
-      | else-r-self-via-else-r-self w ↦ omega (arith, w.if-r-self.false)
-    ]) in
-    record { value = e; chains = closure_told n pairs x.inside r s false e }
+    le-ltb c.args.s (length x.roles.now) c.if-s-self.false
+    ∙ closure_out (length x.roles.now) x.pairs.now c.args.r c.args.s (λ p q. omega (arith, c.if-s-self.false))
