@@ -1,10 +1,9 @@
 -- What is built is a plan of the book under the hierarchy.
-use Rattle.std.proofs.Common.{◌≡◌, ℕ, ◌+◌, ◌-◌, ◌<◌, ◌≤◌, Bool, true, false, cond, ◌&&◌, eqb, ltb, leb, List, length, get_or, sym, refl, ap, ◌∙◌, subst, ⊎_elim, arith}
-use Rattle.std.proofs.lemmas.List.{get_or_past}
-use Rattle.std.proofs.lemmas.Bool.{cases_lt, and_parts, and_from, and_left, and_right, cond-true, lt-ltb, le-ltb, ltb-true, le-leb, lt-leb, eq-eqb, ne_eqb}
+use Rattle.std.proofs.Common.{◌≡◌, ℕ, ◌+◌, ◌<◌, ◌≤◌, Bool, true, false, cond, ◌&&◌, eqb, ltb, leb, List, take, sym, refl, ap, ◌∙◌, subst, ⊎_elim, arith, length-take}
+use Rattle.std.proofs.lemmas.List.{get_or_past, get_or-take}
+use Rattle.std.proofs.lemmas.Bool.{cases_lt, and_parts, and_from, cond-true, lt-ltb, ltb-true, le-leb, eq-eqb}
 use Rattle.std.proofs.lemmas.Bool.Decides.{nat_tests}
 use Rattle.words.specs.Sets.{has}
-use Rattle.words.proofs.Words.{has_none}
 use Rattle.denial.specs.Denials.{Answer, granted, denied}
 use Rattle.denial.specs.declared.Report.{Report}
 use Rattle.meaning.specs.Books.{Book, Sound}
@@ -19,16 +18,14 @@ use Rattle.tableau.specs.declared.Entry.{Entry}
 use Rattle.tableau.specs.declared.Entry.TheVariants.{Plain, Inclusion, Inclusions}
 use Rattle.tableau.specs.Entries.{LowerEntry}
 use Rattle.tableau.specs.Seeds.{role_of}
-use Rattle.tableau.specs.Working.{propagated_list, nowhere, plain_of, width_of, entry_of, propagates_of, table_of}
+use Rattle.tableau.specs.Working.{width_of, entry_of, table_of}
 use Rattle.tableau.specs.Promises.{Opens}
-use Rattle.tableau.proofs.Tables.{entry_past, sprung}
+use Rattle.tableau.proofs.Tables.{entry_past}
 use Rattle.tableau.proofs.Tabling.{lower, tabled}
 use Rattle.plan.specs.declared.Plan.{Plan}
-use Rattle.plan.specs.declared.propagated.Propagations.{Propagations}
 use Rattle.plan.specs.Plans.{listed_entry, listed_role, is_lower, lowered}
 use Rattle.plan.specs.Meanings.{table_in, box_in}
 use Rattle.plan.specs.Building.{Planned, verdict, box_of}
-use Rattle.plan.specs.Listing.{Lists, springs_from}
 
 lower_test : (i : ℕ) (e : Entry) → LowerEntry i e → is_lower i e ≡ true
 lower_test i (Plain Nothing) h = refl
@@ -53,6 +50,13 @@ role_under (Plain (Restriction q r a)) h = h q r a refl
 role_under (Inclusion c d) h = omega arith
 role_under (Inclusions lo n) h = omega arith
 
+-- among the first entries too each has a small role
+pub roles_first : (n j : ℕ) (es : List Entry) → ((i : ℕ) → listed_role es i < 64) → listed_role (take n es) j < 64
+roles_first n j es small = ⊎_elim
+    (λ l. subst (λ e. role_of e < 64) (sym (get_or-take n es j (Plain Nothing) l)) (small j))
+    (λ g. subst (λ e. role_of e < 64) (sym (get_or_past (take n es) j (Plain Nothing) (omega (arith, length-take n es)))) (omega arith))
+    (cases_lt j n)
+
 module _ (H : RoleBox) (K : Book) (P : Opens H K) where
   role_small : (i : ℕ) → role_of (entry_of H K i) < 64
   role_small i = ⊎_elim
@@ -67,59 +71,6 @@ module _ (H : RoleBox) (K : Book) (P : Opens H K) where
     pub all_lowered : lowered es ≡ true
     unfolding lowered
     all_lowered = all_from 64 (λ i. is_lower i (listed_entry es i)) (λ i l. lower_test i (listed_entry es i) (subst (LowerEntry i) (sym (same i)) (lower H K P i)))
-
-  -- an entry from 64 on is the origin of none
-  none_of : (i j : ℕ) → 64 ≤ i → propagates_of H K i j ≡ false
-  unfolding propagates_of
-  none_of i j far =
-      let few = P.narrow in
-      let o = (get_or (propagated_list H K) (j - K.entries) nowhere).origin in
-      ⊎_elim
-      (λ low. and_left _ _ (lt-leb K.entries j low))
-      (λ above. ⊎_elim
-      (λ inside.
-      let s = (sprung H K (j - K.entries) (omega arith)).entry_in in
-      and_right (leb K.entries j) _ (and_right (ltb j (plain_of H K)) (eqb o i) (ne_eqb o i (λ e. omega arith))))
-      (λ past. and_right (leb K.entries j) _ (and_left _ _ (le-ltb j (plain_of H K) past)))
-      (cases_lt j (plain_of H K)))
-      (cases_lt j K.entries)
-
-  module _ (x : Propagations) (h : Lists x (propagated_list H K)) (first : ℕ) (start : first ≡ K.entries) where
-    -- the list holds what the table says
-    springs_is : (i j : ℕ) → springs_from x.origins first x.count i j ≡ propagates_of H K i j
-    unfolding propagates_of
-    springs_is i j =
-        let many = h.counted in
-        let few = P.narrow in
-        ⊎_elim
-        (λ low. and_left _ _ (lt-leb first j low) ∙ sym (and_left _ _ (lt-leb K.entries j (omega arith))))
-        (λ above. ⊎_elim
-        (λ inside.
-        let at = h.origin_is (j - K.entries) (omega arith) (omega arith) in
-        ap (λ n. springs_from x.origins n x.count i j) start
-        ∙ ap (λ n. leb K.entries j && (ltb j n && eqb (get_or x.origins (j - K.entries) 0) i)) (ap (λ n. K.entries + n) many)
-        ∙ ap (λ o. leb K.entries j && (ltb j (plain_of H K) && eqb o i)) at)
-        (λ past.
-        and_right _ _ (and_left _ _ (le-ltb j (first + x.count) past))
-        ∙ sym (and_right _ _ (and_left _ _ (le-ltb j (plain_of H K) (omega arith)))))
-        (cases_lt j (first + x.count)))
-        (cases_lt j first)
-
-    module _ (rows : List ℕ) (long : length rows ≡ 64) (is : (i j : ℕ) → i < 64 → has (get_or rows i 0) j ≡ springs_from x.origins first x.count i j) where
-      pub rows_propagated : (i j : ℕ) → has (get_or rows i 0) j ≡ propagates_of H K i j
-      rows_propagated i j = ⊎_elim
-          (λ l. is i j l ∙ springs_is i j)
-          (λ g. ap (λ w. has w j) (get_or_past rows i 0 (omega arith)) ∙ has_none j ∙ sym (none_of i j g))
-          (cases_lt i 64)
-
-      pub rows_inside : (i j : ℕ) → has (get_or rows i 0) j ≡ true → j < width_of H K
-      unfolding propagates_of
-      rows_inside i j e =
-          let o = (get_or (propagated_list H K) (j - K.entries) nowhere).origin in
-          let a = and_parts (leb K.entries j) (ltb j (plain_of H K) && eqb o i) (sym (rows_propagated i j) ∙ e) in
-          let b = and_parts (ltb j (plain_of H K)) (eqb o i) a.1 in
-          let l = ltb-true j (plain_of H K) b.0 in
-          omega arith
 
 -- a transitive role of the universal layer, by the marks of the hierarchy under it
 pub marks_same : (n : ℕ) (passing : ℕ → Bool) (r : ℕ) → n < 64

@@ -1,8 +1,10 @@
--- The working entries and the sets of them, filled one after another.
-use Rattle.std.proofs.Common.{◌≡◌, ℕ, ◌+◌, ◌-◌, ◌<◌, ◌≤◌, Bool, true, false, ◌||◌, eqb, ◌≢◌, List, length, get_or, set, sym, ap, ◌∙◌, ⊎_elim, arith, length-set, get_or-set_other, get_or-set_same}
-use Rattle.std.proofs.lemmas.List.{get_or_past}
-use Rattle.std.proofs.lemmas.Bool.{cases_lt, cases_eq, eq-eqb, ne_eqb}
-use Rattle.std.proofs.lemmas.Bool.Decides.{nat_tests}
+-- The working entries by their place, and the sets of them.
+use Rattle.std.specs.Array.{IsFromFnResult, IsFromFnResultFrom}
+use Rattle.std.specs.Fn.{Called}
+use denote.Param.Members.{Mut}
+use Rattle.std.proofs.Common.{◌≡◌, ℕ, zero, suc, ◌+◌, ◌-◌, ◌<◌, ◌≤◌, Bool, true, false, ◌&&◌, eqb, ltb, leb, List, length, get_or, take, sym, ap, ◌∙◌, subst, ⊎_elim, arith, length-take}
+use Rattle.std.proofs.lemmas.List.{get_or_past, get_or-take}
+use Rattle.std.proofs.lemmas.Bool.{cases_lt, cases_eq, and_parts, and_left, and_right, ltb-true, lt-ltb, le-ltb, le-leb, lt-leb, ne_eqb}
 use Rattle.words.specs.Sets.{has}
 use Rattle.words.proofs.Words.{has_none}
 use Rattle.meaning.specs.Books.{Book}
@@ -11,29 +13,61 @@ use Rattle.meaning.specs.declared.Concept.TheVariants.{Nothing, Restriction}
 use Rattle.meaning.specs.declared.Quantifier.TheVariants.{Forall}
 use Rattle.tableau.specs.declared.Entry.{Entry}
 use Rattle.tableau.specs.declared.Entry.TheVariants.{Plain, Inclusions}
-use Rattle.tableau.specs.Working.{with_other_role, propagated_list, nowhere, plain_of, book_entry, width_of, rule_entry, entry_of}
-use Rattle.tableau.proofs.Tables.{entry_propagated, entry_rule, entry_book, entry_everywhere, entry_past}
+use Rattle.tableau.specs.Working.{with_other_role, propagated_list, nowhere, plain_of, book_entry, width_of, rule_entry, entry_of, propagates_of}
+use Rattle.tableau.proofs.Tables.{entry_propagated, entry_rule, entry_book, entry_everywhere, entry_past, sprung}
 use Rattle.plan.specs.declared.propagated.Propagations.{Propagations}
 use Rattle.plan.specs.Plans.{listed_entry}
-use Rattle.plan.specs.Listing.{Lists, springs_from}
+use Rattle.plan.specs.Listing.{noted_as, Lists}
 
--- an array whose places below i are filled by f
-abbrev pub Filled : {A : Type 0} → A → ℕ → (ℕ → A) → List A → Type 0
-Filled d i f xs = (length xs ≡ 64) × ((k : ℕ) → k < i → get_or xs k d ≡ f k)
+-- a table that a closure filled, where the closure computes h
+module _ {F B : Type 0} {g : Mut F (ℕ × Unit {0}) B} {f : F} (ys : List B) (h : ℕ → B) (d : B) (says : (k : ℕ) (y : B) (q : F) → Called g f (k, tt) y q → (q ≡ f) × (y ≡ h k)) where
+  filled_from : (i n : ℕ) → IsFromFnResultFrom g f ys i n → (k : ℕ) → i ≤ k → k < i + n → get_or ys k d ≡ h k
+  filled_from i zero e k l m = absurd (omega arith)
+  filled_from i (suc n) e k l m =
+      let now = says i e.1 e.0 e.3 in
+      ⊎_elim
+      (λ (same : k ≡ i). rw same (e.2.1 d ∙ now.1))
+      (λ other. filled_from (i + 1) n (subst (λ q. IsFromFnResultFrom g q ys (i + 1) n) now.0 e.4) k (omega arith) (omega arith))
+      (cases_eq k i)
+
+  pub filled : (n : ℕ) → IsFromFnResult g f ys n → (k : ℕ) → k < n → get_or ys k d ≡ h k
+  filled n r k l = filled_from 0 n r.each k (omega arith) (omega arith)
+
+-- a propagated restriction stands before the rules
+pub propagated_inside : (H : RoleBox) (K : Book) (i j : ℕ) → propagates_of H K i j ≡ true → j < plain_of H K
+unfolding propagates_of
+propagated_inside H K i j e =
+    let o = (get_or (propagated_list H K) (j - K.entries) nowhere).origin in
+    let a = and_parts (leb K.entries j) (ltb j (plain_of H K) && eqb o i) e in
+    ltb-true j (plain_of H K) (and_parts (ltb j (plain_of H K)) (eqb o i) a.1).0
 
 module _ (H : RoleBox) (K : Book) (x : Propagations) (few : width_of H K ≤ 64) (h : Lists x (propagated_list H K)) where
   pub at_propagated : (j first : ℕ) → first ≡ K.entries → first ≤ j → j < first + x.count
-      → Plain (with_other_role (get_or x.roles (j - first) 0) (K.concept (get_or x.origins (j - first) 0))) ≡ entry_of H K j
+      → let o = get_or x.noted (j - first) (noted_as nowhere) in Plain (with_other_role o.role (K.concept o.origin)) ≡ entry_of H K j
   at_propagated j first e g l =
-      let k = j - K.entries in
-      let same : j - first ≡ k = omega arith in
-      let counted = h.counted in
-      let o = h.origin_is k (omega arith) (omega arith) in
-      let r = h.role_is k (omega arith) (omega arith) in
-      ap (λ k. Plain (with_other_role (get_or x.roles k 0) (K.concept (get_or x.origins k 0)))) same
-      ∙ ap (λ a. Plain (with_other_role a (K.concept (get_or x.origins k 0)))) r
-      ∙ ap (λ a. Plain (with_other_role (get_or (propagated_list H K) k nowhere).role (K.concept a))) o
-      ∙ sym (entry_propagated H K j (omega arith) (omega arith))
+      let same : j - first ≡ j - K.entries = omega arith in
+      let held = h.held (j - K.entries) (omega (arith, h.counted)) (omega (arith, h.counted)) in
+      ap (λ k. let o = get_or x.noted k (noted_as nowhere) in Plain (with_other_role o.role (K.concept o.origin))) same
+      ∙ ap (λ o. Plain (with_other_role o.role (K.concept o.origin))) held
+      ∙ sym (entry_propagated H K j (omega arith) (omega (arith, h.counted)))
+
+  -- an entry among the propagated restrictions is one of the entry that was noted
+  pub springs_in : (i j first : ℕ) → first ≡ K.entries → first ≤ j → j < plain_of H K
+      → eqb (get_or x.noted (j - first) (noted_as nowhere)).origin i ≡ propagates_of H K i j
+  unfolding propagates_of
+  springs_in i j first e g l =
+      let held = h.held (j - K.entries) (omega arith) (omega arith) in
+      ap (λ f. eqb (get_or x.noted (j - f) (noted_as nowhere)).origin i) e ∙ ap (λ o. eqb o.origin i) held
+      ∙ sym (ap (λ b. b && (ltb j (plain_of H K) && eqb (get_or (propagated_list H K) (j - K.entries) nowhere).origin i)) (le-leb K.entries j (omega arith))
+      ∙ ap (λ b. b && eqb (get_or (propagated_list H K) (j - K.entries) nowhere).origin i) (lt-ltb j (plain_of H K) l))
+
+  -- any other entry is none
+  pub springs_out : (i j first : ℕ) → first ≡ K.entries → (first ≤ j → j < plain_of H K → ⊥) → propagates_of H K i j ≡ false
+  unfolding propagates_of
+  springs_out i j first e out = ⊎_elim
+      (λ low. and_left _ _ (lt-leb K.entries j low))
+      (λ above. and_right (leb K.entries j) _ (and_left _ _ (le-ltb j (plain_of H K) (⊎_elim (λ l. absurd (out (omega arith) l)) (λ g. g) (cases_lt j (plain_of H K))))))
+      (cases_lt j K.entries)
 
   pub at_rule : (j plain : ℕ) → plain ≡ plain_of H K → plain ≤ j → j < plain + K.rules → rule_entry (K.rule (j - plain)) ≡ entry_of H K j
   at_rule j plain e g l = ap (λ p. rule_entry (K.rule (j - p))) e ∙ sym (entry_rule H K j (omega arith) (omega arith))
@@ -46,47 +80,39 @@ module _ (H : RoleBox) (K : Book) (x : Propagations) (few : width_of H K ≤ 64)
   at_everywhere j count i e f here =
       ap (λ r. Plain (Restriction Forall r i)) e ∙ ap (λ i. Plain (Restriction Forall H.count i)) f ∙ sym (entry_everywhere H K) ∙ ap (entry_of H K) (omega arith)
 
-  pub entries_all : (es : List Entry) → Filled (Plain Nothing) 64 (entry_of H K) es → (i : ℕ) → listed_entry es i ≡ entry_of H K i
-  entries_all es f i = ⊎_elim
-      (λ l. f.1 i l)
-      (λ g. get_or_past es i (Plain Nothing) (omega (arith, f.0)) ∙ sym (entry_past H K i (omega arith)))
+  -- an entry from 64 on is the origin of none
+  none_of : (i j : ℕ) → 64 ≤ i → propagates_of H K i j ≡ false
+  unfolding propagates_of
+  none_of i j far =
+      let o = (get_or (propagated_list H K) (j - K.entries) nowhere).origin in
+      ⊎_elim
+      (λ low. and_left _ _ (lt-leb K.entries j low))
+      (λ above. ⊎_elim
+      (λ inside.
+      let s = (sprung H K (j - K.entries) (omega arith)).entry_in in
+      and_right (leb K.entries j) _ (and_right (ltb j (plain_of H K)) (eqb o i) (ne_eqb o i (λ e. omega arith))))
+      (λ past. and_right (leb K.entries j) _ (and_left _ _ (le-ltb j (plain_of H K) past)))
+      (cases_lt j (plain_of H K)))
+      (cases_lt j K.entries)
+
+  pub rows_all : (rows : List ℕ) → length rows ≡ 64 → ((i j : ℕ) → i < 64 → has (get_or rows i 0) j ≡ propagates_of H K i j)
+      → (i j : ℕ) → has (get_or rows i 0) j ≡ propagates_of H K i j
+  rows_all rows long each i j = ⊎_elim
+      (λ l. each i j l)
+      (λ g. ap (λ w. has w j) (get_or_past rows i 0 (omega arith)) ∙ has_none j ∙ sym (none_of i j g))
       (cases_lt i 64)
 
--- one more of the list, which is of entry i
-pub springs_in : (origins : List ℕ) (first k i w v : ℕ) → get_or origins k 0 ≡ i → ((j : ℕ) → has w j ≡ springs_from origins first k i j)
-    → ((j : ℕ) → has v j ≡ (eqb j (first + k) || has w j)) → (j : ℕ) → has v j ≡ springs_from origins first (k + 1) i j
-springs_in origins first k i w v here before more j =
-    more j ∙ ap (λ b. eqb j (first + k) || b) (before j) ∙ ⊎_elim
-    (λ (same : j ≡ first + k).
-    let at : j - first ≡ k = omega arith in
-    let is : eqb (get_or origins (j - first) 0) i ≡ true = eq-eqb (get_or origins (j - first) 0) i (ap (λ k. get_or origins k 0) at ∙ here) in
-    rw is (grind (arith, nat_tests)))
-    (λ other. grind (arith, nat_tests))
-    (cases_eq j (first + k))
+  pub entries_all : (es : List Entry) → length es ≡ 64 → ((k : ℕ) → k < 64 → listed_entry es k ≡ entry_of H K k) → (i : ℕ) → listed_entry es i ≡ entry_of H K i
+  entries_all es long each i = ⊎_elim
+      (λ l. each i l)
+      (λ g. get_or_past es i (Plain Nothing) (omega arith) ∙ sym (entry_past H K i (omega arith)))
+      (cases_lt i 64)
 
-pub springs_out : (origins : List ℕ) (first k i w : ℕ) → (get_or origins k 0 ≡ i → ⊥) → ((j : ℕ) → has w j ≡ springs_from origins first k i j)
-    → (j : ℕ) → has w j ≡ springs_from origins first (k + 1) i j
-springs_out origins first k i w other before j =
-    before j ∙ ⊎_elim
-    (λ (same : j ≡ first + k).
-    let at : j - first ≡ k = omega arith in
-    let is : eqb (get_or origins (j - first) 0) i ≡ false = ne_eqb (get_or origins (j - first) 0) i (λ e. other (sym (ap (λ k. get_or origins k 0) at) ∙ e)) in
-    rw is (grind (arith, nat_tests)))
-    (λ other. grind (arith, nat_tests))
-    (cases_eq j (first + k))
-
-pub springs_none : (origins : List ℕ) (first i j : ℕ) → has 0 j ≡ springs_from origins first 0 i j
-springs_none origins first i j = has_none j ∙ grind (arith, nat_tests)
-
-pub filled_more : {A : Type 0} (d v : A) (i : ℕ) (f : ℕ → A) (xs : List A) → i < 64 → v ≡ f i → Filled d i f xs → Filled d (i + 1) f (set xs i v)
-filled_more d v i f xs l here before = (
-  length-set xs i v ∙ before.0,
-  λ k m. ⊎_elim
-      (λ (same : k ≡ i). rw same (get_or-set_same xs i v d (omega (arith, before.0)) ∙ here))
-      (λ (other : k ≢ i). get_or-set_other xs i k v d other ∙ before.1 k (omega arith))
-      (cases_eq k i),
-)
-
--- rows whose places below i are sets by u
-abbrev pub RowsFilled : ℕ → (ℕ → ℕ → Bool) → List ℕ → Type 0
-RowsFilled i u rows = (length rows ≡ 64) × ((k j : ℕ) → k < i → has (get_or rows k 0) j ≡ u k j)
+-- what a test says of the first n entries
+pub within_first : (n j : ℕ) (es : List Entry) (p : Entry → Bool) → n ≤ length es
+    → (ltb j (length (take n es)) && p (listed_entry (take n es) j)) ≡ (ltb j n && p (listed_entry es j))
+within_first n j es p l =
+    ap (λ m. ltb j m && p (listed_entry (take n es) j)) (length-take n es ∙ omega arith) ∙ ⊎_elim
+    (λ in_first. ap (λ e. ltb j n && p e) (get_or-take n es j (Plain Nothing) in_first))
+    (λ past. and_left _ _ (le-ltb j n past) ∙ sym (and_left _ _ (le-ltb j n past)))
+    (cases_lt j n)

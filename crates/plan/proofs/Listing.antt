@@ -1,13 +1,13 @@
 -- The list of the propagated restrictions grows one by one.
 use Rattle.std.proofs.Common.{◌≡◌, ℕ, zero, suc, ◌+◌, ◌*◌, ◌<◌, ◌≤◌, Bool, true, false, cond, ltb, List, [], ◌∷◌, ◌++◌, length, get_or, set, sym, refl, ap, ◌∙◌, subst, ⊎_elim, suc-mul, add-one, arith, length-set}
 use Rattle.std.proofs.lemmas.List.{append-nil, append_assoc, length-append, length_push, get_or_push, get_or_append_left, get_or-set_same, get_or-set_other}
-use Rattle.std.proofs.lemmas.Bool.{cases_lt, cond-true, cond-false, cond_both, lt-ltb}
+use Rattle.std.proofs.lemmas.Bool.{cases_lt, cond-true, cond-false, lt-ltb}
 use Rattle.meaning.specs.Books.{Book}
 use Rattle.meaning.specs.Orders.{RoleBox}
 use Rattle.tableau.specs.Folds.{gather}
 use Rattle.tableau.specs.Working.{Propagated, propagates_by, propagated_by, propagated_list, nowhere}
 use Rattle.plan.specs.declared.propagated.Propagations.{Propagations}
-use Rattle.plan.specs.Listing.{propagated_to, Lists, added}
+use Rattle.plan.specs.Listing.{propagated_to, noted_as, Lists, added}
 
 pub gather_none : {A : Type 0} (f : ℕ → List A) → gather 0 f ≡ []
 unfolding gather
@@ -31,49 +31,38 @@ one_short : {A : Type 0} (b : Bool) (x : A) → length (cond b (x ∷ []) []) �
 one_short true x = omega arith
 one_short false x = omega arith
 
--- the arrays with one more
-set_added : (n c v k : ℕ) (xs : List ℕ) → length xs ≡ 64 → c ≡ n → k < 64 → k ≡ n → get_or (cond (ltb c 64) (set xs c v) xs) k 0 ≡ v
-set_added n c v k xs long same few here =
-    ap (λ ys. get_or ys k 0) (cond-true (ltb c 64) (set xs c v) xs (lt-ltb c 64 (omega arith)))
-    ∙ subst (λ j. get_or (set xs c v) j 0 ≡ v) (same ∙ sym here) (get_or-set_same xs c v 0 (omega arith))
+-- the array with one more at place c
+set_at : {A : Type 0} (c k : ℕ) (v d : A) (xs : List A) → c < length xs → k ≡ c → get_or (set xs c v) k d ≡ v
+set_at c k v d xs l here = subst (λ j. get_or (set xs c v) j d ≡ v) (sym here) (get_or-set_same xs c v d l)
 
-set_kept : (c v k : ℕ) (xs : List ℕ) → k < c → get_or (cond (ltb c 64) (set xs c v) xs) k 0 ≡ get_or xs k 0
-set_kept c v k xs l = cond_both (ltb c 64) (set xs c v) xs (λ ys. get_or ys k 0 ≡ get_or xs k 0) (λ e. get_or-set_other xs c k v 0 (λ (s : k ≡ c). omega arith)) (λ e. refl)
+set_kept : {A : Type 0} (b : Bool) (c k : ℕ) (v d : A) (xs : List A) → k < c → get_or (cond b (set xs c v) xs) k d ≡ get_or xs k d
+set_kept true c k v d xs l = get_or-set_other xs c k v d (λ (s : k ≡ c). omega arith)
+set_kept false c k v d xs l = refl
 
-long_kept : (c v n : ℕ) (xs : List ℕ) → length xs ≡ n → length (cond (ltb c 64) (set xs c v) xs) ≡ n
-long_kept c v n xs e = cond_both (ltb c 64) (set xs c v) xs (λ ys. length ys ≡ n) (λ t. length-set xs c v ∙ e) (λ t. e)
-
--- an array beside a list of numbers, and both with one more
-held_more : (o : Propagated → ℕ) (arr : List ℕ) (c v : ℕ) (list : List Propagated) (x : Propagated)
-    → o x ≡ v → length arr ≡ 64 → c ≡ length list
-    → ((k : ℕ) → k < length list → k < 64 → get_or arr k 0 ≡ o (get_or list k nowhere))
-    → (k : ℕ) → k < length (list ++ x ∷ []) → k < 64 → get_or (cond (ltb c 64) (set arr c v) arr) k 0 ≡ o (get_or (list ++ x ∷ []) k nowhere)
-held_more o arr c v list x same long counted held k l few = ⊎_elim
-    (λ old. set_kept c v k arr (omega arith) ∙ held k old few ∙ sym (ap o (get_or_append_left list (x ∷ []) nowhere k old)))
-    (λ new.
-    let here : k ≡ length list = omega (arith, length_push list x) in
-    set_added (length list) c v k arr long counted few here ∙ sym same ∙ sym (ap o (get_or_push list x nowhere k (sym here))))
-    (cases_lt k (length list))
+long_kept : {A : Type 0} (b : Bool) (c n : ℕ) (v : A) (xs : List A) → length xs ≡ n → length (cond b (set xs c v) xs) ≡ n
+long_kept true c n v xs e = length-set xs c v ∙ e
+long_kept false c n v xs e = e
 
 pub lists_more : (x : Propagations) (list : List Propagated) (i p : ℕ) → Lists x list → Lists (added x i p) (list ++ record { origin = i; role = p } ∷ [])
 lists_more x list i p h =
     let one : Propagated = record { origin = i; role = p } in
     record {
-      origins_long = long_kept x.count i 64 x.origins h.origins_long;
-      roles_long = long_kept x.count p 64 x.roles h.roles_long;
+      long = long_kept (ltb x.count 64) x.count 64 (noted_as one) x.noted h.long;
       counted = ap (λ n. n + 1) h.counted ∙ sym (length_push list one);
-      origin_is = held_more (λ o. o.origin) x.origins x.count i list one refl h.origins_long h.counted h.origin_is;
-      role_is = held_more (λ o. o.role) x.roles x.count p list one refl h.roles_long h.counted h.role_is;
+      held = λ k l few. ⊎_elim
+          (λ old.
+          set_kept (ltb x.count 64) x.count k (noted_as one) (noted_as nowhere) x.noted (omega (arith, h.counted)) ∙ h.held k old few
+          ∙ sym (ap noted_as (get_or_append_left list (one ∷ []) nowhere k old)))
+          (λ new.
+          let here : k ≡ length list = omega (arith, length_push list one) in
+          ap (λ b. get_or (cond b (set x.noted x.count (noted_as one)) x.noted) k (noted_as nowhere)) (lt-ltb x.count 64 (omega (arith, h.counted)))
+          ∙ set_at x.count k (noted_as one) (noted_as nowhere) x.noted (omega (arith, h.counted, h.long)) (omega (arith, h.counted))
+          ∙ sym (ap noted_as (get_or_push list one nowhere k (sym here))))
+          (cases_lt k (length list));
     }
 
-pub lists_none : (x : Propagations) → x.count ≡ 0 → length x.origins ≡ 64 → length x.roles ≡ 64 → Lists x []
-lists_none x none origins roles = record {
-  origins_long = origins;
-  roles_long = roles;
-  counted = none;
-  origin_is = λ k l few. absurd (omega arith);
-  role_is = λ k l few. absurd (omega arith);
-}
+pub lists_none : (x : Propagations) → x.count ≡ 0 → length x.noted ≡ 64 → Lists x []
+lists_none x none long = record { long = long; counted = none; held = λ k l few. absurd (omega arith) }
 
 module _ (H : RoleBox) (K : Book) where
   -- those of the entries below i, and of entry i those by the roles below p

@@ -17,6 +17,7 @@ mod working;
 // Row r of `rows` is the set of the roles that r is below; `marks` are the transitive roles. Row r of `above` is the set of
 // the working entries whose role r is below. Row i of `propagated` is the set of the propagated restrictions of entry i.
 // `nothing` and `everything` are the entries that clash with + and with -.
+// Stays: the library takes no heap, so all of it is in fixed arrays, with the width and the count of roles beside them.
 #[derive(Clone, Copy)]
 pub struct Plan {
     pub width: usize,
@@ -47,9 +48,7 @@ impl Plan {
     pub fn entry(&self, i: usize) -> Entry
         ensures { result ≡ listed_entry self.now.entries i }
     {
-        if i < 64 {
-            return self.entries[i];
-        }
-        Entry::Plain(Concept::Nothing)
+        let nothing = Entry::Plain(Concept::Nothing);
+        self.entries.get(i).copied().unwrap_or(nothing)
     }
 }

@@ -1,5 +1,5 @@
 // Sets of working entries, worked out once: those whose role a role is below, and those that clash with a sign alone.
-ghost use Rattle.std.specs.Prelude.{◌≡◌, ℕ, ◌<◌, ◌≤◌, ◌&&◌, nat_lt, slice_index};
+ghost use Rattle.std.specs.Prelude.{◌≡◌, ℕ, ◌<◌, ◌≤◌, ◌&&◌, length, nat_lt, slice_index};
 ghost use Rattle.words.specs.Sets.{has};
 ghost use Rattle.tableau.specs.Expansions.{absurd_entry};
 ghost use Rattle.tableau.specs.Seeds.{role_of};
@@ -9,43 +9,29 @@ use meaning::Concept;
 use tableau::Entry;
 
 // For each role, the entries whose role it is below.
-pub fn above(entries: &[Entry; 64], width: usize, rows: &[u64; 64]) -> [u64; 64]
-    requires { (width ≤ 64) × (((j : ℕ) → listed_role entries.now j < 64)) }
-    ensures { (r j : ℕ) → r < 64 → has (slice_index result r) j ≡ (nat_lt j width && has (slice_index rows.now r) (listed_role entries.now j)) }
+pub fn above(entries: &[Entry], rows: &[u64; 64]) -> [u64; 64]
+    requires few { length entries.now ≤ 64 }
+    requires roles { (j : ℕ) → listed_role entries.now j < 64 }
+    ensures { (r j : ℕ) → r < 64 → has (slice_index result r) j ≡ (nat_lt j (length entries.now) && has (slice_index rows.now r) (listed_role entries.now j)) }
 {
-    let mut sets = [0u64; 64];
-    'roles: for r in 0..64 {
-        sets[r] = above_row(entries, width, rows[r]);
-    }
-    sets
+    words::tabulate(|r| above_row(entries, rows[r]))
 }
 
 // The entries whose role is in the set.
-fn above_row(entries: &[Entry; 64], width: usize, row: u64) -> u64
-    requires { (width ≤ 64) × (((j : ℕ) → listed_role entries.now j < 64)) }
-    ensures { (j : ℕ) → has result j ≡ (nat_lt j width && has row (listed_role entries.now j)) }
+fn above_row(entries: &[Entry], row: u64) -> u64
+    requires few { length entries.now ≤ 64 }
+    requires roles { (j : ℕ) → listed_role entries.now j < 64 }
+    ensures { (j : ℕ) → has result j ≡ (nat_lt j (length entries.now) && has row (listed_role entries.now j)) }
 {
-    let mut set = 0;
-    'entries: for j in 0..width {
-        if words::member(row, role(entries[j])) {
-            set = words::insert(set, j);
-        }
-    }
-    set
+    words::collect(entries.len(), |j| words::member(row, role(entries[j])))
 }
 
 // The entries that no individual has with the sign.
-pub fn absurd_set(entries: &[Entry; 64], width: usize, sign: bool) -> u64
-    requires { width ≤ 64 }
-    ensures { (i : ℕ) → has result i ≡ (nat_lt i width && absurd_in entries.now i sign) }
+pub fn absurd_set(entries: &[Entry], sign: bool) -> u64
+    requires { length entries.now ≤ 64 }
+    ensures { (i : ℕ) → has result i ≡ (nat_lt i (length entries.now) && absurd_in entries.now i sign) }
 {
-    let mut set = 0;
-    'entries: for i in 0..width {
-        if is_absurd(entries[i], sign) {
-            set = words::insert(set, i);
-        }
-    }
-    set
+    words::collect(entries.len(), |i| is_absurd(entries[i], sign))
 }
 
 // The role of a restriction; of any other entry 0.

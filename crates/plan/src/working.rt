@@ -1,61 +1,118 @@
 // The working entries of a book under a hierarchy, and which of them are the propagated restrictions of which.
-ghost use Rattle.std.specs.Prelude.{◌≡◌, ℕ, ◌+◌, ◌<◌, ◌≤◌, length, slice_index};
+ghost use Rattle.std.specs.Prelude.{◌≡◌, ℕ, ◌<◌, ◌≤◌, MatchResult, slice_index};
 ghost use Rattle.words.specs.Sets.{has};
+ghost use Rattle.denial.specs.Denials.{reported, denial_report};
+ghost use Rattle.denial.specs.declared.Layer.TheVariants.{Register};
 ghost use Rattle.book.specs.Sections.{says};
 ghost use Rattle.book.specs.Views.{view};
 ghost use Rattle.meaning.specs.declared.Concept.TheVariants.{Restriction};
 ghost use Rattle.meaning.specs.declared.Quantifier.TheVariants.{Forall};
 ghost use Rattle.tableau.specs.declared.Entry.TheVariants.{Plain};
-ghost use Rattle.tableau.specs.Working.{with_other_role, propagated_list, width_of, entry_of};
+ghost use Rattle.tableau.specs.Working.{with_other_role, propagated_list, plain_of, width_of, entry_of, propagates_of};
 ghost use Rattle.plan.specs.Building.{box_of};
-ghost use Rattle.plan.specs.Listing.{Lists, springs_from};
+ghost use Rattle.plan.specs.Listing.{Lists};
 ghost use Rattle.plan.specs.Plans.{listed_entry};
 
 use crate::propagated::Propagations;
 use book::Book;
+use denial::Denial;
 use meaning::{Concept, Order, Quantifier};
 use roles::rows::Rows;
+use std::array;
 use tableau::Entry;
 
-// All of them; past the last there is nothing.
-pub fn entries(book: &Book, base: &Rows, list: &Propagations) -> [Entry; 64]
-    requires { (width_of (box_of base.now) (says (view book.now)) ≤ 64) × (Lists list.now (propagated_list (box_of base.now) (says (view book.now)))) }
-    ensures { (i : ℕ) → listed_entry result i ≡ entry_of (box_of base.now) (says (view book.now)) i }
-{
-    let mut entries = [Entry::Plain(Concept::Nothing); 64];
-    'entries: for j in 0..64 {
-        entries[j] = entry_at(book, base, list, j);
-    }
-    entries
+// As many working entries as a plan can have.
+const ENTRIES: usize = 64;
+
+// What the working entries are made of: a book, a hierarchy that is kept as rows, and the propagated restrictions. The
+// width is how many entries there are.
+#[derive(Clone, Copy)]
+pub struct Draft<'a> {
+    book: &'a Book,
+    base: &'a Rows,
+    list: Propagations,
+    pub width: usize,
+    ghost lists: { Lists list (propagated_list (box_of base.now) (says (view book.now))) },
+    ghost width_is: { width ≡ width_of (box_of base.now) (says (view book.now)) },
+    ghost narrow: { width ≤ 64 },
 }
 
-// Concepts, propagated restrictions, rules, all rules, and that they hold everywhere.
-fn entry_at(book: &Book, base: &Rows, list: &Propagations, j: usize) -> Entry
-    requires { (width_of (box_of base.now) (says (view book.now)) ≤ 64) × (Lists list.now (propagated_list (box_of base.now) (says (view book.now)))) }
-    ensures { result ≡ entry_of (box_of base.now) (says (view book.now)) j }
-{
-    let first = book.entry_count();
-    let plain = first + list.count;
-    let rules = book.rule_count();
-    if j < first {
-        return Entry::Plain(book.concept(j));
+impl<'a> Draft<'a> {
+    // Refused where there are too many working entries.
+    pub fn new(book: &'a Book, base: &'a Rows) -> Result<Draft<'a>, Denial>
+        ensures { let w = width_of (box_of base.now) (says (view book.now)) in MatchResult result (λ d. (d.book.now ≡ book.now) × (d.base.now ≡ base.now)) (λ e. (64 < w) × (denial_report e ≡ reported 13 w Register)) }
+    {
+        let list = Propagations::of(book, base);
+        let width = book.entry_count() + list.count + book.rule_count() + 2;
+        if width > ENTRIES {
+            return Err(Denial::Width(width));
+        }
+        Ok(Draft {
+            book,
+            base,
+            list,
+            width,
+        })
     }
-    if j < plain {
-        let k = j - first;
-        let origin = book.concept(list.origins[k] as usize);
-        return Entry::Plain(with_role(list.roles[k], origin));
+
+    // Where the rules start: after the concepts and the propagated restrictions.
+    pub fn plain(&self) -> usize
+        ensures { result ≡ plain_of (box_of self.now.base.now) (says (view self.now.book.now)) }
+    {
+        self.book.entry_count() + self.list.count
     }
-    if j < plain + rules {
-        let rule = book.rule(j - plain);
-        return Entry::Inclusion(rule.premise, rule.conclusion);
+
+    // All of them; past the last there is nothing.
+    pub fn entries(&self) -> [Entry; 64]
+        ensures { (i : ℕ) → listed_entry result i ≡ entry_of (box_of self.now.base.now) (says (view self.now.book.now)) i }
+    {
+        array::from_fn(|j| self.entry(j))
     }
-    if j == plain + rules {
-        return Entry::Inclusions(plain as u8, rules as u8);
+
+    // Concepts, propagated restrictions, rules, all rules, and that they hold everywhere.
+    fn entry(&self, j: usize) -> Entry
+        ensures { result ≡ entry_of (box_of self.now.base.now) (says (view self.now.book.now)) j }
+    {
+        let first = self.book.entry_count();
+        let plain = self.plain();
+        let rules = self.book.rule_count();
+        if j < first {
+            Entry::Plain(self.book.concept(j))
+        } else if j < plain {
+            let noted = self.list.noted[j - first];
+            Entry::Plain(with_role(noted.role, self.book.concept(noted.origin as usize)))
+        } else if j < plain + rules {
+            let rule = self.book.rule(j - plain);
+            Entry::Inclusion(rule.premise, rule.conclusion)
+        } else if j == plain + rules {
+            Entry::Inclusions(plain as u8, rules as u8)
+        } else if j == plain + rules + 1 {
+            everywhere(self.base.count(), plain + rules)
+        } else {
+            Entry::Plain(Concept::Nothing)
+        }
     }
-    if j == plain + rules + 1 {
-        return everywhere(base.count(), plain + rules);
+
+    // For each entry the set of its propagated restrictions.
+    pub fn propagated(&self) -> [u64; 64]
+        ensures { (i j : ℕ) → has (slice_index result i) j ≡ propagates_of (box_of self.now.base.now) (says (view self.now.book.now)) i j }
+    {
+        words::tabulate(|i| self.propagated_of(i))
     }
-    Entry::Plain(Concept::Nothing)
+
+    fn propagated_of(&self, i: usize) -> u64
+        ensures { (j : ℕ) → has result j ≡ propagates_of (box_of self.now.base.now) (says (view self.now.book.now)) i j }
+    {
+        words::collect(self.plain(), |j| self.propagates(i, j))
+    }
+
+    // Whether entry j is a propagated restriction of entry i.
+    fn propagates(&self, i: usize, j: usize) -> bool
+        ensures { result ≡ propagates_of (box_of self.now.base.now) (says (view self.now.book.now)) i j }
+    {
+        let first = self.book.entry_count();
+        first <= j && j < self.plain() && self.list.noted[j - first].origin as usize == i
+    }
 }
 
 // The same restriction by the role p.
@@ -70,33 +127,9 @@ fn with_role(p: u8, concept: Concept) -> Concept
 
 // The entry i of everything that the role r leads to.
 fn everywhere(r: usize, i: usize) -> Entry
-    requires { (r < 256) × (i < 256) }
+    requires role { r < 256 }
+    requires entry { i < 256 }
     ensures { result ≡ Plain (Restriction Forall r i) }
 {
     Entry::Plain(Concept::Restriction(Quantifier::Forall, r as u8, i as u8))
-}
-
-// For each entry the set of its propagated restrictions, the first of all being entry `first`.
-pub fn propagated_rows(list: &Propagations, first: usize) -> [u64; 64]
-    requires { (first + list.now.count ≤ 64) × (length list.now.origins ≡ 64) }
-    ensures { (i j : ℕ) → i < 64 → has (slice_index result i) j ≡ springs_from list.now.origins first list.now.count i j }
-{
-    let mut rows = [0u64; 64];
-    'entries: for i in 0..64 {
-        rows[i] = propagated_of(list, first, i);
-    }
-    rows
-}
-
-fn propagated_of(list: &Propagations, first: usize, i: usize) -> u64
-    requires { (first + list.now.count ≤ 64) × (length list.now.origins ≡ 64) }
-    ensures { (j : ℕ) → has result j ≡ springs_from list.now.origins first list.now.count i j }
-{
-    let mut set = 0;
-    'list: for k in 0..list.count {
-        if list.origins[k] as usize == i {
-            set = words::insert(set, first + k);
-        }
-    }
-    set
 }

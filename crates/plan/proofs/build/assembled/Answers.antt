@@ -1,55 +1,57 @@
-use Rattle.std.proofs.Common.{◌≡◌, length, arith, rules}
+use Rattle.std.proofs.Common.{◌≡◌, ◌≤◌, true, false, ◌&&◌, ltb, length, get_or, sym, ap, ◌∙◌, arith, rules}
+use Rattle.words.specs.Sets.{has}
+use Rattle.meaning.specs.Universal.{universal_size, universal_under, universal_passing}
 use Rattle.book.specs.Sections.{says}
 use Rattle.book.specs.Views.{view}
+use Rattle.roles.specs.Rows.{related}
+use Rattle.roles.specs.declared.rows.Rows.{Rows}
+use Rattle.tableau.specs.Expansions.{absurd_entry}
+use Rattle.tableau.specs.Seeds.{role_of}
 use Rattle.plan.specs.Building.{box_of}
-use Rattle.plan.proofs.Building.{roles_in, all_lowered, rows_propagated, rows_inside}
+use Rattle.plan.proofs.Building.{roles_in, roles_first, all_lowered, marks_same}
+use Rattle.plan.proofs.Filling.{propagated_inside, within_first}
 use Rattle.plan.proofs.build.assembled.Goals as goal
 
-pub above-requires : goal.above-requires
-above-requires c =
-    let H = box_of c.args.base.now in
-    let K = says (view c.args.book.now) in
-    let P = c.requires.opens in
-    let es = c.entries-entries in (
-      omega (arith, P.narrow, c.requires.width),
-      roles_in H K P es.result es.ensures,
-    )
+pub above-requires-clause-roles : goal.above-requires-clause-roles
+above-requires-clause-roles c j =
+    let d = c.args.draft.now in
+    let es = c.entries-entries in
+    roles_first d.width j es.result (roles_in (box_of d.base.now) (says (view d.book.now)) c.requires.opens es.result es.ensures)
 
 pub invariant_of-result : goal.invariant_of-result
 invariant_of-result c =
-    let H = box_of c.args.base.now in
-    let K = says (view c.args.book.now) in
+    let d = c.args.draft.now in
+    let H = box_of d.base.now in
+    let K = says (view d.book.now) in
     let P = c.requires.opens in
-    let list = c.requires.list in
     let es = c.entries-entries in
-    let rows = c.propagated_rows in
-    let long : length rows.result ≡ 64 = search rules in
-    let narrow = P.narrow in
-    let counted = list.counted in
-    let first = c.entry_count-first.ensures in
-    let width = c.requires.width in
-    let same = es.ensures in record { few = omega arith; entries_long = search rules; rows_long = search rules; above_long = search rules; propagated_long = search rules; low = all_lowered H K P es.result same; roles_in = roles_in H K P es.result same; above_is = c.above.ensures; inside = λ i j e. omega (arith, rows_inside H K P c.args.list.now list c.entry_count-first.result first rows.result long rows.ensures i j e); nothing_is = c.absurd_set.ensures; everything_is = c.absurd_set-2.ensures }
+    let long : length es.result ≡ 64 = search rules in
+    let fits : d.width ≤ length es.result = omega (arith, d.narrow) in record {
+      few = d.narrow;
+      entries_long = long;
+      rows_long = search rules;
+      above_long = search rules;
+      propagated_long = search rules;
+      low = all_lowered H K P es.result es.ensures;
+      roles_in = roles_in H K P es.result es.ensures;
+      above_is = λ r j l. c.above.ensures r j l ∙ within_first d.width j es.result (λ e. has (get_or c.rows-rows.result r 0) (role_of e)) fits;
+      inside = λ i j e. let l = propagated_inside H K i j (sym (c.propagated.ensures i j) ∙ e) in omega (arith, d.width_is);
+      nothing_is = λ i. c.absurd_set.ensures i ∙ within_first d.width i es.result (λ e. absurd_entry e true) fits;
+      everything_is = λ i. c.absurd_set-2.ensures i ∙ within_first d.width i es.result (λ e. absurd_entry e false) fits;
+    }
 
 pub returns : goal.returns
 returns c =
-    let H = box_of c.args.base.now in
-    let K = says (view c.args.book.now) in
-    let P = c.requires.opens in
-    let list = c.requires.list in
-    let rows = c.propagated_rows in
-    let long : length rows.result ≡ 64 = search rules in
-    let counted = list.counted in
-    let first = c.entry_count-first.ensures in
-    let width = c.requires.width in
+    let d = c.args.draft.now in
+    let x = d.base.now in
+    let over = c.requires.over in
     record {
-      planned = record {
-        width_is = c.requires.width;
-        plain_is = omega arith;
-        count_is = omega (arith, c.count.ensures, P.few);
-        entry_is = c.entries-entries.ensures;
-        propagated_is = rows_propagated H K P c.args.list.now list c.entry_count-first.result first rows.result long rows.ensures;
-        row_is = c.requires.relation;
-        marks_are = c.requires.transitive;
-      };
-      fitting = P;
+      width_is = d.width_is;
+      plain_is = c.plain.ensures;
+      count_is = c.count.ensures ∙ ap (λ (x : Rows). universal_size x.count) over;
+      entry_is = c.entries-entries.ensures;
+      propagated_is = c.propagated.ensures;
+      row_is = λ r s. c.rows-rows.ensures r s ∙ ap (λ (x : Rows). universal_under x.count (related x.rows) r s) over;
+      marks_are = λ r. c.marks.ensures r ∙ ap (λ (x : Rows). ltb r (universal_size x.count) && universal_passing x.count (has x.marks) r) over
+          ∙ marks_same x.count (has x.marks) r c.requires.opens.few;
     }
