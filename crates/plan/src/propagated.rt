@@ -30,6 +30,7 @@ pub struct Propagations {
 
 impl Propagations {
     // All of them.
+    // Stays: entries and roles go by number here, and an iterator over them would be no plainer than a `for` over the numbers.
     pub fn of(book: &Book, base: &Rows) -> Propagations
         ensures { Lists result (propagated_list (box_of base.now) (says (view book.now))) }
     {
