@@ -179,8 +179,6 @@ pub fn next_label(plan: &Plan, seed: Label, c: u64) -> Option<(Label, u64)>
 }
 
 // Choice words from 0 on run through all expansions of a seed, and through no more than 2 ^ 63.
-pub fn choices_cover() -> u8
+pub fn choices_cover()
     ensures { ChoicesCover }
-{
-    0
-}
+{}

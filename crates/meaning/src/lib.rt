@@ -86,22 +86,16 @@ pub trait Hierarchy: Order {
 }
 
 // What an entry means is what its kind says over what its parts mean.
-pub fn entries_mean() -> u8
+pub fn entries_mean()
     ensures { EntriesMean }
-{
-    0
-}
+{}
 
 // For a relation on the numbers below a bound, `reach` decides whether a chain of its steps leads from x to y.
-pub fn chains_decided() -> u8
+pub fn chains_decided()
     ensures { ReachDecides }
-{
-    0
-}
+{}
 
 // Worlds that agree on the names and on a book's roles are alike to the book: in its entries, and in keeping it.
-pub fn agreeing_worlds() -> u8
+pub fn agreeing_worlds()
     ensures { AgreeingWorlds }
-{
-    0
-}
+{}

@@ -7,6 +7,8 @@ use Rattle.std.proofs.lemmas.List.{get_or_past, get_or-take}
 use Rattle.std.proofs.lemmas.Bool.{cases_lt, cases_eq, and_parts, and_left, and_right, ltb-true, lt-ltb, le-ltb, le-leb, lt-leb, ne_eqb}
 use Rattle.words.specs.Sets.{has}
 use Rattle.words.proofs.Words.{has_none}
+use Rattle.book.specs.Sections.{says}
+use Rattle.book.specs.Views.{view}
 use Rattle.meaning.specs.Books.{Book}
 use Rattle.meaning.specs.Orders.{RoleBox}
 use Rattle.meaning.specs.declared.Concept.TheVariants.{Nothing, Restriction}
@@ -15,9 +17,10 @@ use Rattle.tableau.specs.declared.Entry.{Entry}
 use Rattle.tableau.specs.declared.Entry.TheVariants.{Plain, Inclusions}
 use Rattle.tableau.specs.Working.{with_other_role, propagated_list, nowhere, plain_of, book_entry, width_of, rule_entry, entry_of, propagates_of}
 use Rattle.tableau.proofs.Tables.{entry_propagated, entry_rule, entry_book, entry_everywhere, entry_past, sprung}
-use Rattle.plan.specs.declared.propagated.Propagations.{Propagations}
+use Rattle.plan.specs.declared.working.Draft.{Draft}
+use Rattle.plan.specs.Building.{box_of}
 use Rattle.plan.specs.Plans.{listed_entry}
-use Rattle.plan.specs.Listing.{noted_as, Lists}
+use Rattle.plan.specs.Listing.{noted_as}
 
 -- a table that a closure filled, where the closure computes h
 module _ {F B : Type 0} {g : Mut F (ℕ × Unit {0}) B} {f : F} (ys : List B) (h : ℕ → B) (d : B) (says : (k : ℕ) (y : B) (q : F) → Called g f (k, tt) y q → (q ≡ f) × (y ≡ h k)) where
@@ -41,27 +44,8 @@ propagated_inside H K i j e =
     let a = and_parts (leb K.entries j) (ltb j (plain_of H K) && eqb o i) e in
     ltb-true j (plain_of H K) (and_parts (ltb j (plain_of H K)) (eqb o i) a.1).0
 
-module _ (H : RoleBox) (K : Book) (x : Propagations) (few : width_of H K ≤ 64) (h : Lists x (propagated_list H K)) where
-  pub at_propagated : (j first : ℕ) → first ≡ K.entries → first ≤ j → j < first + x.count
-      → let o = get_or x.noted (j - first) (noted_as nowhere) in Plain (with_other_role o.role (K.concept o.origin)) ≡ entry_of H K j
-  at_propagated j first e g l =
-      let same : j - first ≡ j - K.entries = omega arith in
-      let held = h.held (j - K.entries) (omega (arith, h.counted)) (omega (arith, h.counted)) in
-      ap (λ k. let o = get_or x.noted k (noted_as nowhere) in Plain (with_other_role o.role (K.concept o.origin))) same
-      ∙ ap (λ o. Plain (with_other_role o.role (K.concept o.origin))) held
-      ∙ sym (entry_propagated H K j (omega arith) (omega (arith, h.counted)))
-
-  -- an entry among the propagated restrictions is one of the entry that was noted
-  pub springs_in : (i j first : ℕ) → first ≡ K.entries → first ≤ j → j < plain_of H K
-      → eqb (get_or x.noted (j - first) (noted_as nowhere)).origin i ≡ propagates_of H K i j
-  unfolding propagates_of
-  springs_in i j first e g l =
-      let held = h.held (j - K.entries) (omega arith) (omega arith) in
-      ap (λ f. eqb (get_or x.noted (j - f) (noted_as nowhere)).origin i) e ∙ ap (λ o. eqb o.origin i) held
-      ∙ sym (ap (λ b. b && (ltb j (plain_of H K) && eqb (get_or (propagated_list H K) (j - K.entries) nowhere).origin i)) (le-leb K.entries j (omega arith))
-      ∙ ap (λ b. b && eqb (get_or (propagated_list H K) (j - K.entries) nowhere).origin i) (lt-ltb j (plain_of H K) l))
-
-  -- any other entry is none
+module _ (H : RoleBox) (K : Book) where
+  -- an entry outside the propagated restrictions is one of none
   pub springs_out : (i j first : ℕ) → first ≡ K.entries → (first ≤ j → j < plain_of H K → ⊥) → propagates_of H K i j ≡ false
   unfolding propagates_of
   springs_out i j first e out = ⊎_elim
@@ -80,6 +64,36 @@ module _ (H : RoleBox) (K : Book) (x : Propagations) (few : width_of H K ≤ 64)
   at_everywhere j count i e f here =
       ap (λ r. Plain (Restriction Forall r i)) e ∙ ap (λ i. Plain (Restriction Forall H.count i)) f ∙ sym (entry_everywhere H K) ∙ ap (entry_of H K) (omega arith)
 
+-- what a draft gives
+module _ (d : Draft) where
+  abbrev H : RoleBox
+  H = box_of d.base.now
+
+  abbrev K : Book
+  K = says (view d.book.now)
+
+  few : width_of H K ≤ 64
+  few = omega (arith, d.width_is, d.narrow)
+
+  pub at_propagated : (j first : ℕ) → first ≡ K.entries → first ≤ j → j < first + d.list.count
+      → let o = get_or d.list.noted (j - first) (noted_as nowhere) in Plain (with_other_role o.role (K.concept o.origin)) ≡ entry_of H K j
+  at_propagated j first e g l =
+      let same : j - first ≡ j - K.entries = omega arith in
+      let held = d.lists.held (j - K.entries) (omega (arith, few, d.lists.counted)) (omega (arith, few, d.lists.counted)) in
+      ap (λ k. let o = get_or d.list.noted k (noted_as nowhere) in Plain (with_other_role o.role (K.concept o.origin))) same
+      ∙ ap (λ o. Plain (with_other_role o.role (K.concept o.origin))) held
+      ∙ sym (entry_propagated H K j (omega arith) (omega (arith, few, d.lists.counted)))
+
+  -- an entry among the propagated restrictions is one of the entry that was noted
+  pub springs_in : (i j first : ℕ) → first ≡ K.entries → first ≤ j → j < plain_of H K
+      → eqb (get_or d.list.noted (j - first) (noted_as nowhere)).origin i ≡ propagates_of H K i j
+  unfolding propagates_of
+  springs_in i j first e g l =
+      let held = d.lists.held (j - K.entries) (omega arith) (omega (arith, few)) in
+      ap (λ f. eqb (get_or d.list.noted (j - f) (noted_as nowhere)).origin i) e ∙ ap (λ o. eqb o.origin i) held
+      ∙ sym (ap (λ b. b && (ltb j (plain_of H K) && eqb (get_or (propagated_list H K) (j - K.entries) nowhere).origin i)) (le-leb K.entries j (omega arith))
+      ∙ ap (λ b. b && eqb (get_or (propagated_list H K) (j - K.entries) nowhere).origin i) (lt-ltb j (plain_of H K) l))
+
   -- an entry from 64 on is the origin of none
   none_of : (i j : ℕ) → 64 ≤ i → propagates_of H K i j ≡ false
   unfolding propagates_of
@@ -90,7 +104,7 @@ module _ (H : RoleBox) (K : Book) (x : Propagations) (few : width_of H K ≤ 64)
       (λ above. ⊎_elim
       (λ inside.
       let s = (sprung H K (j - K.entries) (omega arith)).entry_in in
-      and_right (leb K.entries j) _ (and_right (ltb j (plain_of H K)) (eqb o i) (ne_eqb o i (λ e. omega arith))))
+      and_right (leb K.entries j) _ (and_right (ltb j (plain_of H K)) (eqb o i) (ne_eqb o i (λ e. omega (arith, few)))))
       (λ past. and_right (leb K.entries j) _ (and_left _ _ (le-ltb j (plain_of H K) past)))
       (cases_lt j (plain_of H K)))
       (cases_lt j K.entries)
@@ -105,7 +119,7 @@ module _ (H : RoleBox) (K : Book) (x : Propagations) (few : width_of H K ≤ 64)
   pub entries_all : (es : List Entry) → length es ≡ 64 → ((k : ℕ) → k < 64 → listed_entry es k ≡ entry_of H K k) → (i : ℕ) → listed_entry es i ≡ entry_of H K i
   entries_all es long each i = ⊎_elim
       (λ l. each i l)
-      (λ g. get_or_past es i (Plain Nothing) (omega arith) ∙ sym (entry_past H K i (omega arith)))
+      (λ g. get_or_past es i (Plain Nothing) (omega arith) ∙ sym (entry_past H K i (omega (arith, few))))
       (cases_lt i 64)
 
 -- what a test says of the first n entries

@@ -7,8 +7,9 @@ ghost use Rattle.book.specs.Views.{view};
 ghost use Rattle.tableau.specs.Promises.{Opens};
 ghost use Rattle.plan.specs.Building.{Planned, Fitting, verdict, granting, box_of};
 
+use crate::Plan;
+use crate::sets::Entries;
 use crate::working::Draft;
-use crate::{Plan, sets};
 use book::Book;
 use denial::Denial;
 use meaning::{Hierarchy, Order};
@@ -53,6 +54,12 @@ fn assembled(draft: &Draft, universal: &Universal<Rows>) -> Plan
     let width = draft.width;
     let entries = draft.entries();
     let rows = asked::rows(universal);
+    let listed = Entries {
+        items: &entries[..width],
+    };
+    let above = listed.above(&rows);
+    let nothing = listed.absurd(true);
+    let everything = listed.absurd(false);
     Plan {
         width,
         plain: draft.plain(),
@@ -60,9 +67,9 @@ fn assembled(draft: &Draft, universal: &Universal<Rows>) -> Plan
         entries,
         rows,
         marks: asked::marks(universal),
-        above: sets::above(&entries[..width], &rows),
+        above,
         propagated: draft.propagated(),
-        nothing: sets::absurd_set(&entries[..width], true),
-        everything: sets::absurd_set(&entries[..width], false),
+        nothing,
+        everything,
     }
 }

@@ -20,7 +20,7 @@ pub struct Propagation {
     pub role: u8,
 }
 
-// How many there are, and the first 64 of them. The count goes on past 64: the refusal of a plan that is too wide says it.
+// How many there are, and the first 64 of them. The count goes on past 64, since the refusal of a width says it.
 // Stays: the library takes no heap, so they are a fixed array with the count beside it.
 #[derive(Clone, Copy)]
 pub struct Propagations {
@@ -30,6 +30,7 @@ pub struct Propagations {
 
 impl Propagations {
     // All of them.
+    // Stays: entries and roles go by number, and a chain over the numbers would be no plainer than these loops.
     pub fn of(book: &Book, base: &Rows) -> Propagations
         ensures { Lists result (propagated_list (box_of base.now) (says (view book.now))) }
     {

@@ -8,30 +8,38 @@ ghost use Rattle.plan.specs.Plans.{listed_role, absurd_in};
 use meaning::Concept;
 use tableau::Entry;
 
-// For each role, the entries whose role it is below.
-pub fn above(entries: &[Entry], rows: &[u64; 64]) -> [u64; 64]
-    requires few { length entries.now ≤ 64 }
-    requires roles { (j : ℕ) → listed_role entries.now j < 64 }
-    ensures { (r j : ℕ) → r < 64 → has (slice_index result r) j ≡ (nat_lt j (length entries.now) && has (slice_index rows.now r) (listed_role entries.now j)) }
-{
-    words::tabulate(|r| above_row(entries, rows[r]))
+// The working entries of a plan, lent: 64 at most, and each by a role below 64.
+#[derive(Clone, Copy)]
+pub struct Entries<'a> {
+    pub items: &'a [Entry],
+    ghost few: { length items.now ≤ 64 },
+    ghost roles: { (j : ℕ) → listed_role items.now j < 64 },
 }
 
-// The entries whose role is in the set.
-fn above_row(entries: &[Entry], row: u64) -> u64
-    requires few { length entries.now ≤ 64 }
-    requires roles { (j : ℕ) → listed_role entries.now j < 64 }
-    ensures { (j : ℕ) → has result j ≡ (nat_lt j (length entries.now) && has row (listed_role entries.now j)) }
-{
-    words::collect(entries.len(), |j| words::member(row, role(entries[j])))
-}
+impl<'a> Entries<'a> {
+    // For each role, the entries whose role it is below.
+    pub fn above(&self, rows: &[u64; 64]) -> [u64; 64]
+        ensures { (r j : ℕ) → r < 64 → has (slice_index result r) j ≡ (nat_lt j (length self.now.items.now) && has (slice_index rows.now r) (listed_role self.now.items.now j)) }
+    {
+        words::tabulate(|r| self.above_row(rows[r]))
+    }
 
-// The entries that no individual has with the sign.
-pub fn absurd_set(entries: &[Entry], sign: bool) -> u64
-    requires { length entries.now ≤ 64 }
-    ensures { (i : ℕ) → has result i ≡ (nat_lt i (length entries.now) && absurd_in entries.now i sign) }
-{
-    words::collect(entries.len(), |i| is_absurd(entries[i], sign))
+    // The entries whose role is in the set.
+    fn above_row(&self, row: u64) -> u64
+        ensures { (j : ℕ) → has result j ≡ (nat_lt j (length self.now.items.now) && has row (listed_role self.now.items.now j)) }
+    {
+        words::collect(
+            self.items.len(),
+            |j| words::member(row, role(self.items[j])),
+        )
+    }
+
+    // The entries that no individual has with the sign.
+    pub fn absurd(&self, sign: bool) -> u64
+        ensures { (i : ℕ) → has result i ≡ (nat_lt i (length self.now.items.now) && absurd_in self.now.items.now i sign) }
+    {
+        words::collect(self.items.len(), |i| is_absurd(self.items[i], sign))
+    }
 }
 
 // The role of a restriction; of any other entry 0.

@@ -1,5 +1,5 @@
 // The working entries of a book under a hierarchy, and which of them are the propagated restrictions of which.
-ghost use Rattle.std.specs.Prelude.{◌≡◌, ℕ, ◌<◌, ◌≤◌, MatchResult, slice_index};
+ghost use Rattle.std.specs.Prelude.{◌≡◌, ℕ, ◌<◌, ◌≤◌, IfOk, IfErr, slice_index};
 ghost use Rattle.words.specs.Sets.{has};
 ghost use Rattle.denial.specs.Denials.{reported, denial_report};
 ghost use Rattle.denial.specs.declared.Layer.TheVariants.{Register};
@@ -40,7 +40,10 @@ pub struct Draft<'a> {
 impl<'a> Draft<'a> {
     // Refused where there are too many working entries.
     pub fn new(book: &'a Book, base: &'a Rows) -> Result<Draft<'a>, Denial>
-        ensures { let w = width_of (box_of base.now) (says (view book.now)) in MatchResult result (λ d. (d.book.now ≡ book.now) × (d.base.now ≡ base.now)) (λ e. (64 < w) × (denial_report e ≡ reported 13 w Register)) }
+        ensures book { IfOk result (λ d. d.book.now ≡ book.now) }
+        ensures base { IfOk result (λ d. d.base.now ≡ base.now) }
+        ensures wide { IfErr result (λ _. 64 < width_of (box_of base.now) (says (view book.now))) }
+        ensures report { IfErr result (λ e. denial_report e ≡ reported 13 (width_of (box_of base.now) (says (view book.now))) Register) }
     {
         let list = Propagations::of(book, base);
         let width = book.entry_count() + list.count + book.rule_count() + 2;

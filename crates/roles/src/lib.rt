@@ -11,8 +11,6 @@ pub mod told;
 pub mod universal;
 
 // For pairs of roles, the closure that the contracts cite is: the same role, or a chain of told inclusions.
-pub fn closure_decided() -> u8
+pub fn closure_decided()
     ensures { ClosureDecides }
-{
-    0
-}
+{}

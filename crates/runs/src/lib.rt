@@ -6,29 +6,21 @@ ghost use Rattle.runs.specs.Examples.{RegisterExamples};
 ghost use Rattle.runs.specs.Runs.{RunsByCalls, EveryRunIsRight, RefusalsChangeNothing};
 
 // What class numbers, answers and shown worlds mean, in every run.
-pub fn every_run_is_right() -> u8
+pub fn every_run_is_right()
     ensures { EveryRunIsRight }
-{
-    0
-}
+{}
 
 // A call that is refused changes nothing.
-pub fn refusals_change_nothing() -> u8
+pub fn refusals_change_nothing()
     ensures { RefusalsChangeNothing }
-{
-    0
-}
+{}
 
 // The worked examples hold of the definitions.
-pub fn register_examples_hold() -> u8
+pub fn register_examples_hold()
     ensures { RegisterExamples }
-{
-    0
-}
+{}
 
 // The run that calls make is a run, and every run is that of its calls.
-pub fn runs_by_calls() -> u8
+pub fn runs_by_calls()
     ensures { RunsByCalls }
-{
-    0
-}
+{}

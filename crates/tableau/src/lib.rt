@@ -114,64 +114,46 @@ pub struct Demand {
 }
 
 // The worked examples hold of the definitions.
-pub fn examples_hold() -> u8
+pub fn examples_hold()
     ensures { WorkedExamples }
-{
-    0
-}
+{}
 
 // Both worked books open: the theorems speak of them.
-pub fn examples_open() -> u8
+pub fn examples_open()
     ensures { ExamplesOpen }
-{
-    0
-}
+{}
 
 // Where the search fails, no individual of any finite world that keeps the book satisfies the seed.
-pub fn failure_is_right() -> u8
+pub fn failure_is_right()
     ensures { FailureIsRight }
-{
-    0
-}
+{}
 
 // Where the search stands, the found world keeps the book, and its first individual satisfies the seed.
-pub fn success_is_right() -> u8
+pub fn success_is_right()
     ensures { SuccessIsRight }
-{
-    0
-}
+{}
 
 // With 3 ^ w nodes the search is never without room, and labels that stand are pairwise different.
-pub fn room_suffices() -> u8
+pub fn room_suffices()
     ensures { RoomSuffices }
-{
-    0
-}
+{}
 
 // A search in n nodes leaves at most n labels.
-pub fn search_within_room() -> u8
+pub fn search_within_room()
     ensures { SearchWithinRoom }
-{
-    0
-}
+{}
 
 // At every moment of a search the labels that stand are pairwise different, and at most n.
-pub fn standing_labels_differ() -> u8
+pub fn standing_labels_differ()
     ensures { StandingLabelsDiffer }
-{
-    0
-}
+{}
 
 // The edges that are read off the labels that stand in the end are those that the search chose.
-pub fn edges_are_those_chosen() -> u8
+pub fn edges_are_those_chosen()
     ensures { EdgesAreThoseChosen }
-{
-    0
-}
+{}
 
 // With room enough, "a not b" fails exactly when every finite world that keeps the book puts all of a into b.
-pub fn search_decides() -> u8
+pub fn search_decides()
     ensures { SearchDecides }
-{
-    0
-}
+{}

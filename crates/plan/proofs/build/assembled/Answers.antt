@@ -1,4 +1,4 @@
-use Rattle.std.proofs.Common.{◌≡◌, ◌≤◌, true, false, ◌&&◌, ltb, length, get_or, sym, ap, ◌∙◌, arith, rules}
+use Rattle.std.proofs.Common.{◌≡◌, ◌≤◌, true, false, ◌&&◌, ltb, length, get_or, sym, ap, ◌∙◌, arith, rules, length-take}
 use Rattle.words.specs.Sets.{has}
 use Rattle.meaning.specs.Universal.{universal_size, universal_under, universal_passing}
 use Rattle.book.specs.Sections.{says}
@@ -12,11 +12,14 @@ use Rattle.plan.proofs.Building.{roles_in, roles_first, all_lowered, marks_same}
 use Rattle.plan.proofs.Filling.{propagated_inside, within_first}
 use Rattle.plan.proofs.build.assembled.Goals as goal
 
-pub above-requires-clause-roles : goal.above-requires-clause-roles
-above-requires-clause-roles c j =
+pub invariant_of-listed : goal.invariant_of-listed
+invariant_of-listed c =
     let d = c.args.draft.now in
     let es = c.entries-entries in
-    roles_first d.width j es.result (roles_in (box_of d.base.now) (says (view d.book.now)) c.requires.opens es.result es.ensures)
+    record {
+      few = omega (arith, d.narrow, length-take d.width es.result);
+      roles = λ j. roles_first d.width j es.result (roles_in (box_of d.base.now) (says (view d.book.now)) c.requires.opens es.result es.ensures);
+    }
 
 pub invariant_of-result : goal.invariant_of-result
 invariant_of-result c =
@@ -34,10 +37,10 @@ invariant_of-result c =
       propagated_long = search rules;
       low = all_lowered H K P es.result es.ensures;
       roles_in = roles_in H K P es.result es.ensures;
-      above_is = λ r j l. c.above.ensures r j l ∙ within_first d.width j es.result (λ e. has (get_or c.rows-rows.result r 0) (role_of e)) fits;
+      above_is = λ r j l. c.above-above.ensures r j l ∙ within_first d.width j es.result (λ e. has (get_or c.rows-rows.result r 0) (role_of e)) fits;
       inside = λ i j e. let l = propagated_inside H K i j (sym (c.propagated.ensures i j) ∙ e) in omega (arith, d.width_is);
-      nothing_is = λ i. c.absurd_set.ensures i ∙ within_first d.width i es.result (λ e. absurd_entry e true) fits;
-      everything_is = λ i. c.absurd_set-2.ensures i ∙ within_first d.width i es.result (λ e. absurd_entry e false) fits;
+      nothing_is = λ i. c.absurd-nothing.ensures i ∙ within_first d.width i es.result (λ e. absurd_entry e true) fits;
+      everything_is = λ i. c.absurd-everything.ensures i ∙ within_first d.width i es.result (λ e. absurd_entry e false) fits;
     }
 
 pub returns : goal.returns

@@ -18,12 +18,12 @@ opens c =
     let K = says (view c.args.book.now) in
     let d = c.in_ok-draft.draft in
     let h = layer_granted b.count c.in_ok-universal.universal.base.now b _ c.in_ok-universal.ensures.value in
-    let narrow : width_of (box_of b) K ≤ 64 = rw (sym c.in_ok-draft.ensures.0) (rw (sym c.in_ok-draft.ensures.1) (omega (arith, d.width_is, d.narrow))) in
+    let narrow : width_of (box_of b) K ≤ 64 = rw (sym c.in_ok-draft.ensures.book) (rw (sym c.in_ok-draft.ensures.base) (omega (arith, d.width_is, d.narrow))) in
     opens_from b.count (related b.rows) (has b.marks) K (lawful_known b.count (related b.rows) b.law) (book_sound c.args.book.now)
     (omega (arith, c.count-count.ensures, c.role_count.ensures, c.if-count-role_count.false)) h.0 narrow
 
 pub assembled-requires-clause-opens : goal.assembled-requires-clause-opens
-assembled-requires-clause-opens c = rw c.in_ok-draft.ensures.0 (rw c.in_ok-draft.ensures.1 (opens (goal.at.assembled-requires-clause-opens c).In_ok-draft))
+assembled-requires-clause-opens c = rw c.in_ok-draft.ensures.book (rw c.in_ok-draft.ensures.base (opens (goal.at.assembled-requires-clause-opens c).In_ok-draft))
 
 pub returns-clause-fitting : goal.returns-clause-fitting
 returns-clause-fitting c = opens (goal.at.returns-clause-fitting c).In_ok-draft

@@ -37,8 +37,3 @@ loop-lower-preserved c =
           (w.found-is ∙ w.insert-found.ensures.value ∙ ap (λ upper. bit_or found (2 ^ upper)) pair.1)
       | else-member w ↦ round_stays pairs k c.args.set found c.if-member.found c.loop-lower.invariant (test ∙ w.if-member.false) w.found-is
     ]
-
-pub returns : goal.returns
-returns c =
-    c.loop-lower.invariant
-    ∙ ap (λ k. round_to c.args.pairs.now k c.args.set) (omega (arith, c.as_chunks.ensures.front_len, c.loop-lower-test.false, c.loop-lower.auto.lower-index-end))

@@ -18,7 +18,7 @@ returns-then-j-plain c =
       | then-first-j w ↦ (w.if-first-j.true, subst (λ n. c.args.j < n) w.plain.ensures (ltb-true c.args.j w.plain.result (sym w.value-is ∙ c.if-j-plain.true)))
       | else-first-j w ↦ absurd (let g = leb-true first.result c.args.j (sym w.value-is ∙ c.if-j-plain.true) in omega (arith, w.if-first-j.false))
     ] in
-    springs_in H K d.list (omega (arith, d.width_is, d.narrow)) d.lists c.args.i c.args.j first.result first.ensures within.0 within.1
+    springs_in d c.args.i c.args.j first.result first.ensures within.0 within.1
 
 pub returns-else-j-plain : goal.returns-else-j-plain
 returns-else-j-plain c =
@@ -26,5 +26,5 @@ returns-else-j-plain c =
     let H = box_of d.base.now in
     let K = says (view d.book.now) in
     let first = c.entry_count-first in
-    c.if-j-plain.false ∙ sym (springs_out H K d.list (omega (arith, d.width_is, d.narrow)) d.lists c.args.i c.args.j first.result first.ensures
+    c.if-j-plain.false ∙ sym (springs_out H K c.args.i c.args.j first.result first.ensures
     (λ g l. elim c.if-first-j.branch [ then-first-j w ↦ true≢false (sym (lt-ltb c.args.j w.plain.result (omega (arith, w.plain.ensures))) ∙ sym w.value-is ∙ c.if-j-plain.false) | else-first-j w ↦ omega (arith, w.if-first-j.false) ]))

@@ -1,5 +1,5 @@
 use Rattle.std.proofs.Common.{rules}
-use Rattle.plan.proofs.sets.above.Goals as goal
+use Rattle.plan.proofs.sets.Entries.above.Goals as goal
 
 pub returns : goal.returns
 returns c r j l = let e = c.tabulate.ensures r l in search rules
