@@ -108,6 +108,7 @@ fn weight_of(k: usize) -> u64
 }
 
 // The highest entry below k that the label holds, with either sign.
+// Stays: `k ≤ 64` in three contracts. Each step changes k and the label: a struct of them would be made at each.
 fn highest_held(label: Label, k: usize) -> Option<usize>
     requires { k ≤ 64 }
     ensures { MatchOption result (Free label 0 k) (λ i. (i < k) × Free label (i + 1) k) }
@@ -134,7 +135,7 @@ fn descend(plan: &Plan, label: Label, k: usize) -> Option<Run>
 {
     let mut at = label;
     let mut left = k;
-    // Stays: no iterator could go over these entries, since each that is taken changes the label that says which come next.
+    // Stays: no iterator goes over these entries, since each that is taken changes the label that says what comes next.
     while let Some(i) = highest_held(at, left) {
         if clashes(plan, at) {
             return None;

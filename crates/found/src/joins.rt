@@ -23,8 +23,8 @@ fn only(test: bool, set: u64) -> u64
 }
 
 impl<'a> Edges<'a> {
-    // What a row of the role t gets from the role of the edges: its own row, if t is that role, and the row of its chains,
-    // if it is below t.
+    // What a row of the role t gets from the role of the edges: its own row, if t is that role, and the row of its
+    // chains, if it is below t.
     fn share(&self, t: usize, own: u64, chain: u64) -> u64
         requires { t < 64 }
         ensures { result ≡ share_of (t == self.now.role) (has (slice_index self.now.plan.now.rows self.now.role) t) own chain }

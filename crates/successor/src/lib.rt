@@ -65,6 +65,7 @@ struct Telling<'p> {
     ghost few: { role < 64 },
 }
 
+// Stays: that i is an entry of the plan, in three contracts. It is another one at each call: no struct keeps it.
 impl<'p> Telling<'p> {
     // The restriction by t, which stands signed as entry i, is told on: itself where t is transitive, else those of the
     // restrictions propagated by it whose role is above the successor's.

@@ -1,5 +1,5 @@
-// The search for a world, as a value, and the theorems about it. The code here is the types that the definitions share with
-// the code of the search, and the functions that carry the theorems.
+// The search for a world, as a value, and the theorems about it. The code here is the types that the definitions share
+// with the code of the search, and the functions that carry the theorems.
 #![tactic(auto)]
 
 ghost use Rattle.std.specs.Prelude.{◌≡◌, ℕ, ◌<◌, ◌||◌};
@@ -17,6 +17,7 @@ pub struct Label {
     pub minus: u64,
 }
 
+// Stays: `i < 64` in three contracts. Entries are plain numbers: a type of their own would be made at each call.
 impl Label {
     // The label that holds no entry.
     pub const EMPTY: Label = Label { plus: 0, minus: 0 };
