@@ -36,6 +36,7 @@ impl<'p> Strategy for Planned<'p> {
 
 // Searches from the seed in the lent nodes. Where it stands, the labels of the first so many nodes are the standing list,
 // and the other nodes are blank; where it fails, the answer is `None` and every node is blank.
+#[tactic(auto, using(crate::proofs::Same::find_same))]
 pub fn find(plan: &Plan, nodes: &mut [Node], seed: Label) -> Result<Option<usize>, NoRoom>
     ensures { Says nodes.new result (explore (box_in plan.now) (table_in plan.now) (length nodes.old) (length nodes.old) [] seed) }
 {
@@ -43,6 +44,7 @@ pub fn find(plan: &Plan, nodes: &mut [Node], seed: Label) -> Result<Option<usize
 }
 
 // Whether a world comes of the seed; every node is blank after it.
+#[tactic(auto, using(crate::proofs::Same::find_same))]
 pub fn has_world(plan: &Plan, nodes: &mut [Node], seed: Label) -> Result<bool, NoRoom>
     ensures answer { result ≡ told (explore (box_in plan.now) (table_in plan.now) (length nodes.old) (length nodes.old) [] seed) }
     ensures wiped { nodes.new ≡ replicate (length nodes.old) blank }
@@ -51,6 +53,8 @@ pub fn has_world(plan: &Plan, nodes: &mut [Node], seed: Label) -> Result<bool, N
 }
 
 // The same as `find`, in nodes that are blank.
+// Stays: that they are blank is a clause here and in `tried`, as in `search`: a struct that carries it needs as many clauses.
+#[tactic(auto, using(crate::proofs::Same::find_same))]
 pub fn find_in_blank(plan: &Plan, nodes: &mut [Node], seed: Label) -> Result<Option<usize>, NoRoom>
     requires { nodes.old ≡ replicate (length nodes.old) blank }
     ensures { Says nodes.new result (explore (box_in plan.now) (table_in plan.now) (length nodes.old) (length nodes.old) [] seed) }
@@ -59,6 +63,7 @@ pub fn find_in_blank(plan: &Plan, nodes: &mut [Node], seed: Label) -> Result<Opt
 }
 
 // The same as `has_world`, in nodes that are blank: only what the search wrote is wiped.
+#[tactic(auto, using(crate::proofs::Same::find_same))]
 pub fn tried(plan: &Plan, nodes: &mut [Node], seed: Label) -> Result<bool, NoRoom>
     requires { nodes.old ≡ replicate (length nodes.old) blank }
     ensures answer { result ≡ told (explore (box_in plan.now) (table_in plan.now) (length nodes.old) (length nodes.old) [] seed) }

@@ -142,6 +142,8 @@ pub fn run<S: Strategy>(
 
 // The same in nodes that are blank.
 // Stays: a call of its own beside `run`, since a caller of many searches wipes only what each of them wrote.
+// Stays: that the nodes are blank is a clause here and in `tried`. A struct round the slice can carry it as a ghost field, but
+// each method that takes the struct has to say instead that it holds the same reference, and as many nodes, as before.
 pub fn run_in_blank<S: Strategy>(
     strategy: &S,
     nodes: &mut [Node],
