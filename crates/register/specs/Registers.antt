@@ -18,7 +18,7 @@ setup_of g = setup_in g.plan g.entries
 
 -- the entries by which the classes stand, that of class 1 first
 abbrev pub classes_of : Register → List ℕ
-classes_of g = g.classes.items
+classes_of g = g.classes
 
 -- the reply of a result, where `view` says what the value tells
 abbrev pub reply_of : {A : Type 0} → (A → Reply) → Result A Denial → Reply

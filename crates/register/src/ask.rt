@@ -38,7 +38,8 @@ impl Register {
         if b == 0 {
             return Ok(false);
         }
-        let seed = seed_not(self.classes[a - 1] as usize, self.classes[b - 1] as usize);
+        let stands = self.classes.as_slice();
+        let seed = seed_not(stands[a - 1] as usize, stands[b - 1] as usize);
         let found = self.tried(seed, nodes).map_err(|_| Denial::Room(a))?;
         Ok(!found)
     }

@@ -4,8 +4,8 @@ ghost use Rattle.search.specs.Nodes.{blank};
 ghost use Rattle.runs.specs.Steps.{Call, class, added, compared, placed, placing, step};
 ghost use Rattle.register.specs.Registers.{setup_of, classes_of, reply_of, done};
 
+use crate::Register;
 use crate::searches::{seed_not, seed_one};
-use crate::{MOST, Register};
 use denial::Denial;
 use search::{NoRoom, Node, Workspace, wipe};
 
@@ -55,7 +55,7 @@ impl Register {
         ensures few { IfOk result (λ found. IfSome found (λ class. class ≤ 24)) }
         ensures wiped { nodes.new ≡ replicate (length nodes.old) blank }
     {
-        'classes: for (k, stand) in self.classes.iter().enumerate() {
+        'classes: for (k, stand) in self.classes.as_slice().iter().enumerate() {
             let same = self
                 .compare(entry, *stand as usize, nodes)
                 .map_err(|_| Denial::Room(k + 1))?;
@@ -90,9 +90,7 @@ impl Register {
         ensures setup { setup_of self.new ≡ setup_of self.old }
         ensures few { IfOk result (λ class. class ≤ 24) }
     {
-        self.classes
-            .try_push(entry as u8)
-            .map_err(|_| Denial::Classes(MOST))?;
+        self.classes.push(entry as u8)?;
         Ok(self.classes.len())
     }
 }

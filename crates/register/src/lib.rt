@@ -5,10 +5,11 @@
 
 ghost use Rattle.std.specs.Prelude.{◌≡◌, ℕ, ◌+◌, ◌<◌, ◌≤◌, length, slice_index};
 
-use arrayvec::ArrayVec;
+use classes::Classes;
 use plan::Plan;
 
 mod ask;
+mod classes;
 mod facts;
 mod file;
 mod open;
@@ -17,20 +18,17 @@ mod show;
 
 pub use show::{Shown, Side};
 
-// The most classes besides class 0.
-const MOST: usize = 24;
-
 // What calls need of the book and the hierarchy, and the classes: class k + 1 stands by the entry `classes[k]`. Class 0 is
 // nothing.
 #[derive(Drop)]
 pub struct Register {
     plan: Plan,
     entries: usize,
-    classes: ArrayVec<u8, MOST>,
+    classes: Classes,
     ghost wide: { entries + 2 ≤ plan.width },
     ghost universal: { 0 < plan.count },
     ghost few_roles: { plan.count ≤ 64 },
     ghost few_entries: { entries ≤ 60 },
-    ghost few: { length classes.items ≤ 24 },
-    ghost named: { (k : ℕ) → k < length classes.items → slice_index classes.items k < entries },
+    ghost few: { length classes ≤ 24 },
+    ghost named: { (k : ℕ) → k < length classes → slice_index classes k < entries },
 }

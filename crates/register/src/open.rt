@@ -10,7 +10,7 @@ ghost use Rattle.runs.specs.Runs.{Event, Run, Right};
 ghost use Rattle.register.specs.Registers.{setup_of, classes_of, opening};
 
 use crate::Register;
-use arrayvec::ArrayVec;
+use crate::classes::Classes;
 use book::Book;
 use denial::Denial;
 use meaning::{Hierarchy, Order};
@@ -28,7 +28,7 @@ impl Register {
     {
         let plan = Plan::new(book, hierarchy)?;
         let entries = book.entry_count();
-        let classes = ArrayVec::new();
+        let classes = Classes::new();
         Ok(Register {
             plan,
             entries,

@@ -100,11 +100,12 @@ impl Register {
         requires b { b ≤ length (classes_of self.now) }
         ensures { result ≡ seed_of_apart (classes_of self.now) a b }
     {
-        let first = self.classes[a - 1] as usize;
+        let stands = self.classes.as_slice();
+        let first = stands[a - 1] as usize;
         if b == 0 {
             return seed_one(first);
         }
-        seed_not(first, self.classes[b - 1] as usize)
+        seed_not(first, stands[b - 1] as usize)
     }
 
     // Writes the world that was found in the nodes on the sheet.
