@@ -200,6 +200,7 @@ impl fmt::Display for Report {
 }
 
 // A denial is shown as its report.
+// Stays: three impls, since `Display` is the library's, and no impl of it may cover every type that gives a report.
 impl fmt::Display for TrailerDenial {
     ghost output = { λ d. Some (text_of_report (trailer_report d)) };
 

@@ -23,6 +23,7 @@ pub enum Call<'a> {
     Sheet(usize, &'a str),
     AskBook(BookQuestion),
     AskWorld(WorldQuestion),
+    // opens a register under the hierarchy
     Open(Base),
     Register(RegisterCall),
     // two entries
@@ -53,6 +54,7 @@ pub struct RegisterCall {
     pub nodes: usize,
 }
 
+// What is asked of the register.
 #[derive(Clone, Copy, PartialEq, Eq, Debug)]
 pub enum Action {
     // the entry

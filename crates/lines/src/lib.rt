@@ -33,6 +33,8 @@ fn two_digits(n: u8) -> [u8; 2]
 }
 
 // The line of an entry that has a class number.
+// Stays: the length of a line is part of its type, and no const argument is worked out from the length of a word, so each
+// of the three lines has a function of its own.
 #[tactic(auto, unfolding(crate::specs::Listings::line_of_class, crate::specs::Listings::both_digits))]
 pub fn class_line(entry: u8, class: u8) -> [u8; 12]
     ensures { result ≡ line_of_class entry class }

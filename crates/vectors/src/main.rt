@@ -1,4 +1,5 @@
 // Runs the scripts of test vectors in `stdin`; what it writes must be `stdout`.
+// Stays: the gate runs a program once, on its own `stdin`, so each set of vectors has a program around `script::run`.
 #![tactic(auto)]
 
 use std::io;
