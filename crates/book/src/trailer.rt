@@ -1,5 +1,5 @@
 // The trailer: the last 16 bytes, which say where each section is.
-ghost use Rattle.std.specs.Prelude.{◌≡◌, ◌+◌, ◌<◌, ◌≤◌, length, IfSome, IfOk};
+ghost use Rattle.std.specs.Prelude.{◌≡◌, ◌+◌, ◌<◌, ◌≤◌, ◌||◌, length, nat_lt, IfSome, IfOk};
 ghost use Rattle.denial.specs.Denials.{answer, trailer_report};
 ghost use Rattle.meaning.specs.Bounded.{first};
 ghost use Rattle.book.specs.Layouts.{number16, section_from, end_of, bad_count, bad_place, laying, Laid};
@@ -31,6 +31,15 @@ struct Limits {
     least: usize,
     most: usize,
     width: usize,
+}
+
+impl Limits {
+    // Whether a section may not have so many records.
+    fn exclude(&self, count: usize) -> bool
+        ensures { result ≡ (nat_lt count self.now.least || nat_lt self.now.most count) }
+    {
+        !(self.least..=self.most).contains(&count)
+    }
 }
 
 // The limits of the four sections: roles, pairs, concepts, rules.
@@ -95,30 +104,18 @@ impl<'a> Trailer<'a> {
         ensures value { result ≡ first 4 (bad_count self.now.bytes.now) }
         ensures inside { IfSome result (λ j. j < 4) }
     {
-        (0..4).find(|j| self.count_is_bad(*j))
+        (0..4).find(|j| LIMITS[*j].exclude(self.section(*j).count))
     }
 
-    fn count_is_bad(&self, j: usize) -> bool
-        requires { j < 4 }
-        ensures { result ≡ bad_count self.now.bytes.now j }
-    {
-        let Limits { least, most, .. } = LIMITS[j];
-        !(least..=most).contains(&self.section(j).count)
-    }
-
+    // The first section that starts before the one before it ends, or, as the last one, runs into the trailer.
     fn first_bad_place(&self) -> Option<usize>
         ensures value { result ≡ first 4 (bad_place self.now.bytes.now) }
         ensures inside { IfSome result (λ j. j < 4) }
     {
-        (0..4).find(|j| self.place_is_bad(*j))
-    }
-
-    // Whether a section starts before the one before it ends, or runs into the trailer as the last one.
-    fn place_is_bad(&self, j: usize) -> bool
-        requires { j < 4 }
-        ensures { result ≡ bad_place self.now.bytes.now j }
-    {
-        j > 0 && self.section(j).place < self.end(j - 1) || j == 3 && self.start < self.end(j)
+        (0..4).find(|j| {
+            *j > 0 && self.section(*j).place < self.end(*j - 1)
+                || *j == 3 && self.start < self.end(*j)
+        })
     }
 
     // Where a section ends.
