@@ -15,7 +15,7 @@ pub in_minus : (l : Label) (s : Bool) (i : ℕ) → s ≡ false → in_label l s
 unfolding in_label
 in_minus l s i e = rw e refl
 
-less_than_power : (n : ℕ) → n < 2 ^ n
+pub less_than_power : (n : ℕ) → n < 2 ^ n
 less_than_power zero = omega arith
 less_than_power (suc n) = let e = pow-suc 2 n in let h = less_than_power n in omega arith
 

@@ -1,5 +1,5 @@
 -- Sets of entries, as words: the members of a set by rising number.
-use Rattle.std.specs.Prelude.{◌≡◌, ℕ, ◌<◌, ◌≤◌, true, false}
+use Rattle.std.specs.Prelude.{◌≡◌, ℕ, ◌<◌, ◌≤◌, true, false, not, ◌&&◌, ◌==◌}
 use Rattle.words.specs.Sets.{has}
 
 -- no number from `start` on is in the set
@@ -12,3 +12,10 @@ pub record NextFrom (set start i : ℕ) : Type 0 where
   pub inside : i < 64
   pub member : has set i ≡ true
   pub between : (j : ℕ) → start ≤ j → j < i → has set j ≡ false
+
+-- i is the lowest member of the set, and `rest` is the set without it
+pub record TakesLowest (set i rest : ℕ) : Type 0 where
+  pub inside : i < 64
+  pub member : has set i ≡ true
+  pub before : (j : ℕ) → j < i → has set j ≡ false
+  pub left : (j : ℕ) → has rest j ≡ (has set j && not (j == i))

@@ -6,7 +6,7 @@ ghost use Rattle.std.specs.Prelude.{◌≡◌, ◌+◌, ◌-◌, ◌<◌, ◌≤
 ghost use Rattle.tableau.specs.Seeds.{obliges, sign_of, obligation, obliged_at, told_further, told_by_entry, tell, seed_of};
 ghost use Rattle.plan.specs.Meanings.{table_in, box_in};
 ghost use Rattle.plan.specs.Plans.{listed_entry};
-ghost use Rattle.successor.specs.Sets.{NoneFrom, NextFrom};
+ghost use Rattle.successor.specs.Sets.{TakesLowest};
 ghost use Rattle.successor.specs.Obligations.{told_by_signs, seeds_in};
 
 use meaning::{Concept, Quantifier};
@@ -117,37 +117,23 @@ impl<'p> Telling<'p> {
     }
 }
 
-// The members of a set from `start` on, by rising number.
+// The members of a set, by rising number.
 #[derive(Clone, Copy)]
-struct Members {
-    set: u64,
-    start: usize,
-    ghost within: { start ≤ 64 },
-}
-
-impl Members {
-    fn new(set: u64, start: usize) -> Members
-        requires { start ≤ 64 }
-        ensures { (result.set ≡ set) × (result.start ≡ start) }
-    {
-        Members { set, start }
-    }
-}
+struct Members(u64);
 
 impl Iterator for Members {
     type Item = usize;
 
-    ghost next_gives = { λ s r t. (t.set ≡ s.set) × MatchOption r (NoneFrom s.set s.start) (λ i. NextFrom s.set s.start i × (t.start ≡ i + 1)) };
+    ghost next_gives = { λ s r t. MatchOption r (s.0 ≡ 0) (λ i. TakesLowest s.0 i t.0) };
 
-    ghost remaining = { λ s. at_most (64 - s.start) };
+    ghost remaining = { λ s. at_most s.0 };
 
     fn next(&mut self) -> Option<usize> {
-        let rest = words::difference(self.set, words::below(self.start));
-        if rest == 0 {
+        if self.0 == 0 {
             return None;
         }
-        let i = words::lowest(rest);
-        self.start = i + 1;
+        let i = words::lowest(self.0);
+        self.0 = words::difference(self.0, words::single(i));
         Some(i)
     }
 }
@@ -166,7 +152,7 @@ pub fn seed(plan: &Plan, label: Label, r: usize, sign: bool, a: usize) -> Label
     };
     let asked = words::intersection(label.entries(), plan.above[r]);
     let mut acc = Label::EMPTY.with(sign, a);
-    for i in Members::new(asked, 0) {
+    for i in Members(asked) {
         acc = telling.tell(i, acc);
     }
     acc
@@ -194,7 +180,7 @@ pub fn next_seed(plan: &Plan, label: Label, k: usize) -> Option<(Label, usize)>
         return None;
     }
     let signed = words::intersection(label.entries(), words::below(plan.width));
-    for i in Members::new(signed, k) {
+    for i in Members(words::difference(signed, words::below(k))) {
         if let Some(found) = seed_at(plan, label, i) {
             return Some((found, i + 1));
         }

@@ -1,13 +1,12 @@
-use Rattle.std.proofs.Common.{refl, ◌∙◌, arith}
+use Rattle.std.proofs.Common.{◌+◌, refl, arith}
 use Rattle.tableau.specs.Folds.{fold}
+use Rattle.successor.proofs.Emptying.{left_all, left_next, left_after, left_none}
 use Rattle.successor.proofs.Skipping.{telling_from, told_next, told_all, seed_is}
 use Rattle.successor.proofs.seed.Goals as goal
 
 pub loop-i-init : goal.loop-i-init
 unfolding fold
-loop-i-init c =
-    let at = c.new-i-items.ensures in
-    rw (c.into_iter-i-iterator.ensures.into_iter_gives, at.1) (record { set = at.0; told = (refl, omega arith) })
+loop-i-init c = rw c.into_iter-i-iterator.ensures.into_iter_gives (0, left_all c.intersection-asked.result, (refl, omega arith))
 
 pub loop-i-preserved : goal.loop-i-preserved
 loop-i-preserved c =
@@ -15,12 +14,14 @@ loop-i-preserved c =
     let l = c.args.label in
     let set = c.intersection-asked.result in
     let telling = telling_from p l c.args.r c.entries.result set c.entries.ensures c.intersection-asked.ensures.members in
-    let steps = c.in-Some.ensures.steps in
-    record {
-      set = steps.0 ∙ c.loop-i.invariant.set;
-      told = rw steps.1.1 (told_next p l c.args.r c.with-acc.result set c.requires.successor telling c.loop-i.i-iterator.start c.in-Some.i c.loop-i.acc c.tell-acc.result
-          c.loop-i.invariant.told (rw c.loop-i.invariant.set at steps.1.0) c.tell-acc.ensures);
-    }
+    let so = c.loop-i.invariant in
+    let i = c.in-Some.i in
+    let takes = c.in-Some.ensures.steps in (
+      i + 1,
+      left_after set so.0 c.loop-i.i-iterator.0 i c.next.new.self.0 so.1 takes,
+      told_next p l c.args.r c.with-acc.result set c.requires.successor telling so.0 i c.loop-i.acc c.tell-acc.result
+          so.2 (left_next set so.0 c.loop-i.i-iterator.0 i c.next.new.self.0 so.1 takes) c.tell-acc.ensures,
+    )
 
 pub returns : goal.returns
 returns c =
@@ -28,6 +29,6 @@ returns c =
     let l = c.args.label in
     let set = c.intersection-asked.result in
     let telling = telling_from p l c.args.r c.entries.result set c.entries.ensures c.intersection-asked.ensures.members in
-    let none = rw c.loop-i.invariant.set at c.in-None.ensures.steps.1 in
+    let so = c.loop-i.invariant in
     seed_is p l c.args.r c.args.sign c.args.a c.with-acc.result c.loop-i.acc c.with-acc.ensures
-    (told_all p l c.args.r c.with-acc.result set c.requires.successor telling c.loop-i.i-iterator.start c.loop-i.acc c.loop-i.invariant.told none)
+    (told_all p l c.args.r c.with-acc.result set c.requires.successor telling so.0 c.loop-i.acc so.2 (left_none set so.0 c.loop-i.i-iterator.0 so.1 c.in-None.ensures.steps))
