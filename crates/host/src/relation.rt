@@ -21,6 +21,7 @@ impl Relation {
     }
 
     // The relation, where it is known whether all of the first class is in the second, and the reverse.
+    // Stays: a From of two bools would not say which of the answers is which.
     pub(crate) fn by_answers(within: bool, around: bool) -> Relation
         ensures { result ≡ related_by within around }
     {

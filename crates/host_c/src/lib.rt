@@ -1,4 +1,5 @@
 // The call of the library `host`, exported for C.
+// Stays: the C interface is this one function, of this name, in a static library of its own.
 #![tactic(auto)]
 
 ghost use Rattle.std.specs.Prelude.{◌≡◌};

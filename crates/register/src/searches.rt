@@ -40,6 +40,8 @@ pub(crate) fn rooted(plan: &Plan, seed: Label) -> Label
 
 impl Register {
     // Whether a world that keeps the book has an individual that satisfies the seed.
+    // Stays: nodes that are all blank have no type of their own. With one, this `requires` would go from each function that
+    // takes them, and each would have to ensure instead that there are as many of them as before.
     pub(crate) fn tried(&self, seed: Label, nodes: &mut [Node]) -> Result<bool, NoRoom>
         requires { nodes.old ≡ replicate (length nodes.old) blank }
         ensures answer { result ≡ told (search_in (setup_of self.now) seed (length nodes.old)) }
