@@ -1,8 +1,7 @@
 -- A fold that passes over the numbers at which its step does nothing.
-use Rattle.std.proofs.Common.{◌≡◌, ℕ, zero, suc, ◌+◌, ◌-◌, ◌<◌, ◌≤◌, Bool, true, false, not, ◌&&◌, ◌||◌, ltb, get_or, sym, refl, ap, ◌∙◌, add-zero, add-suc, add-one, arith}
-use Rattle.std.proofs.lemmas.Bool.{and_parts, both_ways, le-ltb, ltb-true}
+use Rattle.std.proofs.Common.{◌≡◌, ℕ, zero, suc, ◌+◌, ◌-◌, ◌<◌, ◌≤◌, Bool, true, false, ◌&&◌, ◌||◌, ltb, get_or, sym, ap, ◌∙◌, add-zero, add-suc, add-one, arith}
+use Rattle.std.proofs.lemmas.Bool.{and_parts, ltb-true}
 use Rattle.words.specs.Sets.{has}
-use Rattle.words.proofs.Words.{has_none}
 use Rattle.tableau.specs.declared.Label.{Label}
 use Rattle.tableau.specs.Folds.{fold}
 use Rattle.tableau.specs.Labels.{empty, put}
@@ -26,19 +25,6 @@ pub fold_skips : {A : Type 0} (f : ℕ → A → A) (a : A) (i k : ℕ) → i �
 fold_skips f a i k l none =
     let e : i + (k - i) ≡ k = omega arith in
     ap (λ n. fold n f a) (sym e) ∙ skip_by f a i (k - i) (λ j g h. none j g (omega arith))
-
--- where nothing is left of a set without the numbers below `start`, none of its members is from there on
-pub none_left : (set low rest start : ℕ) → rest ≡ 0 → ((j : ℕ) → has low j ≡ ltb j start) → ((j : ℕ) → has rest j ≡ (has set j && not (has low j)))
-    → NoneFrom set start
-none_left set low rest start gone below is j h =
-    kept (has set j) (has low j)
-    (sym (is j) ∙ ap (λ w. has w j) gone ∙ has_none j)
-    (below j ∙ le-ltb j start h)
-  where
-    kept : (x y : Bool) → (x && not y) ≡ false → y ≡ false → x ≡ false
-    kept true true e f = absurd (both_ways true f refl)
-    kept true false e f = e
-    kept false y e f = refl
 
 -- the entries of the label whose role is above r are the members of the set
 abbrev pub Telling : Plan → Label → ℕ → ℕ → Type 0
