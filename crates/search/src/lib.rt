@@ -196,6 +196,7 @@ impl Drop for Workspace<'_> {
 }
 
 // Whether a world comes of the seed, in nodes that are blank and are so again after it. Only what the search wrote is wiped.
+#[tactic(auto, using(crate::proofs::Steps::all_blank, crate::proofs::Steps::blank_front))]
 pub fn tried<S: Strategy>(strategy: &S, nodes: &mut [Node], seed: Label) -> Result<bool, NoRoom>
     requires { nodes.old ≡ replicate (length nodes.old) blank }
     ensures answer { result ≡ told (explore_by (S.Strategy.game strategy.now) (length nodes.old) (length nodes.old) [] seed) }
