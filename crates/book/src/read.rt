@@ -137,6 +137,7 @@ fn operands_fit(roles: usize, concepts: &[u8], i: usize) -> bool
 }
 
 // Whether entry i may have this kind and these operands; `taken` says that an entry before it has the name.
+// Stays: the kind is a byte of the format until `Kind::try_from` has read it, here and in `decoded`.
 #[tactic(auto, unfolding(crate::specs::Records::fitting))]
 fn fits(roles: usize, i: usize, taken: bool, kind: u8, b: u8, c: u8) -> bool
     ensures { result ≡ fitting roles i taken kind b c }

@@ -17,6 +17,7 @@ pub enum Layer {
 }
 
 // What a refusal says: its number, its detail, its layer.
+// Stays: the numbers of refusals are fixed by the rules of the register, and users go by them.
 #[derive(Clone, Copy, PartialEq, Eq, Debug)]
 pub struct Report {
     pub number: u8,

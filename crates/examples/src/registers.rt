@@ -60,9 +60,9 @@ fn entries_of_b(rt: HostRuntime) -> Result<(), Fail> {
             side: Side::First,
         })
     );
-    for k in 0..66 {
+    for (k, word) in sheet[..66].iter().enumerate() {
         let expected = if k == 0 || k == 1 || k == 65 { 1 } else { 0 };
-        assert_eq!(rt; sheet[k], expected);
+        assert_eq!(rt; *word, expected);
     }
     assert_eq!(rt; sheet[66], 7);
     let mut short = [7u64; 65];

@@ -18,7 +18,8 @@ use tableau::{Entry, Label, Ways};
 
 // The label where it holds one of two signed entries, else the label with the first and with the second.
 fn either(label: Label, s: bool, a: u8, t: bool, b: u8) -> Ways
-    requires { (a < 64) × (b < 64) }
+    requires first { a < 64 }
+    requires second { b < 64 }
     ensures { result ≡ one_of (in_label label s a || in_label label t b) (put s a label) (put t b label) label }
 {
     let (a, b) = (a as usize, b as usize);
@@ -31,7 +32,8 @@ fn either(label: Label, s: bool, a: u8, t: bool, b: u8) -> Ways
 
 // The label with both entries, so signed, in it too.
 fn both(label: Label, sign: bool, a: u8, b: u8) -> Label
-    requires { (a < 64) × (b < 64) }
+    requires first { a < 64 }
+    requires second { b < 64 }
     ensures { result ≡ put sign a (put sign b label) }
 {
     label.with(sign, b as usize).with(sign, a as usize)

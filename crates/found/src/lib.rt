@@ -25,6 +25,7 @@ const MOST: usize = 64;
 
 // The individuals are the nodes. `names` has for each name the set of the entries that are it, and `rows` at 64 * r + x the
 // set of the individuals to which the role r joins x.
+// Stays: the library takes no heap, so the rows are in arrays of the size that they can have at most.
 #[derive(Clone, Copy)]
 pub struct Found<'a> {
     nodes: &'a [Node],
@@ -36,6 +37,7 @@ pub struct Found<'a> {
 impl<'a> Found<'a> {
     // The found world of the labels of the nodes, for the roles of the book. Refused where there are not 1 to 64 nodes, with
     // their number.
+    // Stays: `count ≤ 64` in three contracts. The fields of a plan are public, so that a ghost field would ask it of all who make one.
     pub fn new(plan: &Plan, nodes: &'a [Node]) -> Result<Found<'a>, Denial>
         requires { plan.now.count ≤ 64 }
         ensures value { answer (λ f. f.nodes.now) denial_report result ≡ finding nodes.now }

@@ -46,6 +46,7 @@ pub fn class_line(entry: u8, class: u8) -> [u8; 12]
 }
 
 // The line of an entry whose filing was refused with the number.
+// Stays: a listing shows the number of a refusal alone, which is what a report has.
 #[tactic(auto, unfolding(crate::specs::Listings::line_of_denied_entry, crate::specs::Listings::both_digits))]
 pub fn denied_line(entry: u8, number: u8) -> [u8; 13]
     ensures { result ≡ line_of_denied_entry entry number }

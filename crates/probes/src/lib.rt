@@ -134,6 +134,7 @@ pub extern "C" fn probe_seeds(book: &[u8], plus: u64, minus: u64, times: u64) ->
     )
 }
 
+// Stays: a program in C gives and gets numbers, here and below: a seed as two words, an answer as a number.
 // Searches from a seed in so many nodes, so many times: 0 failed, 1 stands, 2 no room, 3 no search was made.
 #[unsafe(no_mangle)]
 pub extern "C" fn probe_search(

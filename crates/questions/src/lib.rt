@@ -116,6 +116,7 @@ impl Question {
 }
 
 // Whether the role r is below s.
+// Stays: a book goes with each question, as the hierarchy or the words do that are asked about: a script changes each by itself.
 pub fn below(book: &Book, source: Source, r: usize, s: usize) -> Result<bool, Denial>
     ensures { answer (λ b. b) denial_report result ≡ below_of source (view book.now) r s }
 {

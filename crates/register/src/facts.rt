@@ -29,6 +29,7 @@ impl Register {
     }
 
     // Whether the class number was given, which is refused with 9 where it was not.
+    // Stays: that a and b were given is a clause of four functions. It holds of this register alone, and no number keeps which.
     pub(crate) fn given(&self, class: usize) -> Result<(), Denial>
         ensures given { OnOk result (class ≤ length (classes_of self.now)) }
         ensures refused { IfErr result (λ d. (length (classes_of self.now) < class) × (d ≡ Denial.Class class)) }

@@ -67,6 +67,7 @@ impl<'a> Order for Told<'a> {
 impl<'a> Hierarchy for Told<'a> {
     ghost passing = { λ x. marked x.roles.now };
 
+    // Stays: a byte of the format says it, and no record has another than the two that reading lets pass.
     fn transitive(&self, r: usize) -> bool {
         r < self.roles.len() && self.roles[r] == TRANSITIVE
     }

@@ -129,6 +129,7 @@ fn retreat(nodes: &mut [Node], m: usize) -> Option<(usize, Label, u64)>
 
 // Searches from the seed in the lent nodes, as many as there are; what they held before does not matter. Where it stands,
 // the first so many nodes are the individuals of a world; `None` where it fails.
+// Stays: a strategy, the nodes and a seed are all that a search is given, and no two of them belong together.
 pub fn run<S: Strategy>(
     strategy: &S,
     nodes: &mut [Node],

@@ -56,6 +56,7 @@ fn extension<W: World>(world: &W, concept: Concept, sets: &[u64; 64]) -> u64
 }
 
 // The individuals that bear the name n.
+// Stays: a world, a role and an individual go together in what follows, and that x is one of the world: each call has others.
 pub fn bearers<W: World>(world: &W, n: usize) -> u64
     requires { n < 64 }
     ensures { result ≡ set_of (W.World.interpretation world.now).size (λ x. (W.World.interpretation world.now).bears x n) }

@@ -14,6 +14,7 @@ use denial::Denial;
 use meaning::{Hierarchy, Order, World};
 
 // Refused where the hierarchy has another number of roles than the book.
+// Stays: a world, a hierarchy and a book are what keeping is a relation of; a struct of them would be made at each call.
 pub fn keeps<W: World, H: Hierarchy>(world: &W, hierarchy: &H, book: &Book) -> Result<bool, Denial>
     ensures { KeepsAnswer (role_box (H.Order.size hierarchy.now) (H.Order.under hierarchy.now) (H.Hierarchy.passing hierarchy.now)) (says (view book.now)) (W.World.interpretation world.now) result }
 {

@@ -48,6 +48,7 @@ fn obligation(e: Entry, sign: bool) -> Option<Demand>
 }
 
 // What entry i obliges a node with the label to, if to anything.
+// Stays: `i < 64` in three contracts, as for a label: entries are plain numbers.
 pub fn obligation_at(plan: &Plan, label: Label, i: usize) -> Option<Demand>
     requires { i < 64 }
     ensures value { result ≡ obliged_at (table_in plan.now) label i }

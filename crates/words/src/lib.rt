@@ -6,6 +6,7 @@ ghost use Rattle.std.specs.Prelude.{◌≡◌, ℕ, ◌-◌, ◌^◌, ◌<◌, �
 ghost use Rattle.words.specs.Sets.{has, set_of, Tests, Within, Disjoint, Determined, Comprehension};
 
 // Whether k is in the set.
+// Stays: `k < 64` in three contracts, and words by themselves: a set is a word here, and its members are plain numbers.
 pub fn member(w: u64, k: usize) -> bool
     requires { k < 64 }
     ensures { result ≡ has w k }
@@ -119,8 +120,8 @@ pub fn tabulate<F: Fn(usize) -> u64>(row: F) -> [u64; 64]
     ensures { (k : ℕ) → k < 64 → F.post row k (slice_index result k) }
 {
     let mut table = [0; 64];
-    for k in 0..64 {
-        table[k] = row(k);
+    for (k, word) in table.iter_mut().enumerate() {
+        *word = row(k);
     }
     table
 }
