@@ -37,7 +37,7 @@ pub struct Found<'a> {
 impl<'a> Found<'a> {
     // The found world of the labels of the nodes, for the roles of the book. Refused where there are not 1 to 64 nodes, with
     // their number.
-    // Stays: `count ≤ 64` in three contracts. The fields of a plan are public, so that a ghost field would ask it of all who make one.
+    // Stays: `count ≤ 64` in three contracts. A plan's fields are public: as a ghost field it would be asked of all who make one.
     pub fn new(plan: &Plan, nodes: &'a [Node]) -> Result<Found<'a>, Denial>
         requires { plan.now.count ≤ 64 }
         ensures value { answer (λ f. f.nodes.now) denial_report result ≡ finding nodes.now }
