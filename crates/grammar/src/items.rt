@@ -34,8 +34,8 @@ impl<'a> Items<'a> {
         ensures item { result.now ≡ first_item self.old.rest.now }
         ensures rest { self.new.rest.now ≡ other_items self.old.rest.now }
     {
-        let (item, rest) = self.rest.split_once(' ').unwrap_or((self.rest, ""));
-        self.rest = rest.trim_start();
+        let (item, rest) = cut(self.rest);
+        self.rest = rest;
         item
     }
 
@@ -69,6 +69,15 @@ impl<'a> Items<'a> {
             Err(NoCall)
         }
     }
+}
+
+// The first item of a text, and the items after it.
+pub fn cut(text: &str) -> (&str, &str)
+    ensures first { result.0.now ≡ first_item text.now }
+    ensures others { result.1.now ≡ other_items text.now }
+{
+    let (item, rest) = text.split_once(' ').unwrap_or((text, ""));
+    (item, rest.trim_start())
 }
 
 // A decimal number, digits alone.

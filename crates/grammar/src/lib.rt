@@ -1,7 +1,7 @@
 // The lines of a script, as calls.
 #![tactic(auto)]
 
-ghost use Rattle.std.specs.Prelude.{MatchResult};
+ghost use Rattle.std.specs.Prelude.{◌≡◌, Some, codes, MatchResult};
 ghost use Rattle.std.specs.Str.{trim};
 ghost use Rattle.grammar.specs.Spelling.{Spells};
 ghost use Rattle.grammar.specs.declared.Call.{Call};
@@ -9,7 +9,7 @@ ghost use Rattle.grammar.specs.declared.Call.{Call};
 mod items;
 
 use items::Items;
-pub use items::number;
+pub use items::{cut, number};
 use questions::{Base, Source, UnknownHierarchy};
 use std::error::Error;
 use std::fmt;
@@ -70,6 +70,8 @@ pub enum Action {
 pub struct NoCall;
 
 impl fmt::Display for NoCall {
+    ghost output = { λ _. Some (codes "no call") };
+
     fn fmt<W: fmt::Write>(&self, f: &mut fmt::Formatter<W>) -> fmt::Result {
         f.write_str("no call")
     }
@@ -78,6 +80,8 @@ impl fmt::Display for NoCall {
 impl Error for NoCall {}
 
 impl From<UnknownHierarchy> for NoCall {
+    ghost from_gives = { λ _ r. r ≡ record {} };
+
     fn from(_unknown: UnknownHierarchy) -> NoCall {
         NoCall
     }

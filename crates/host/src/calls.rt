@@ -23,8 +23,8 @@ use search::Node;
 const NODES: usize = 200;
 
 // The relation of two entries of the book in the bytes, or the first refusal; and what the relation means.
-#[tactic(auto, unfolding(crate::specs::Relations::relating))]
 // Stays: the two entries are the two numbers of the C interface.
+#[tactic(auto, unfolding(crate::specs::Relations::relating))]
 pub(crate) fn relation(bytes: &[u8], first: usize, second: usize) -> Result<Relation, Denial>
     ensures value { answer (λ x. x) denial_report result ≡ relating bytes.now first second }
     ensures meaning { IfOk result (λ x. (s : Sections) → reading bytes.now ≡ granted s → Means (roles_of s) (says s) first second x) }

@@ -1,7 +1,7 @@
 // What a script asks of a book and of the world on a sheet.
 #![tactic(auto)]
 
-ghost use Rattle.std.specs.Prelude.{◌≡◌, ◌≢◌, MatchResult};
+ghost use Rattle.std.specs.Prelude.{◌≡◌, ◌≢◌, Some, codes, MatchResult};
 ghost use Rattle.denial.specs.Denials.{answer, and_then, record_report, denial_report};
 ghost use Rattle.book.specs.Views.{view};
 ghost use Rattle.questions.specs.Questions.{name_of_base, name_of_source, answer_of, answer_over, answer_from, below_of, transitive_of, individuals_of, judged_of, Kept};
@@ -38,6 +38,8 @@ pub struct Source {
 pub struct UnknownHierarchy;
 
 impl fmt::Display for UnknownHierarchy {
+    ghost output = { λ _. Some (codes "no such hierarchy") };
+
     fn fmt<W: fmt::Write>(&self, f: &mut fmt::Formatter<W>) -> fmt::Result {
         f.write_str("no such hierarchy")
     }
