@@ -1,7 +1,7 @@
 // What a register tells of itself.
-ghost use Rattle.std.specs.Prelude.{◌≡◌, ◌<◌, ◌≤◌, length, IfErr, OnOk};
+ghost use Rattle.std.specs.Prelude.{◌≡◌, ◌<◌, ◌≤◌, length, IfErr, IfOk, IfSome, OnOk};
 ghost use Rattle.denial.specs.declared.Denial.{Denial};
-ghost use Rattle.register.specs.Registers.{setup_of, classes_of};
+ghost use Rattle.register.specs.Registers.{setup_of, classes_of, stand};
 
 use crate::Register;
 use denial::Denial;
@@ -28,15 +28,20 @@ impl Register {
         self.classes.len()
     }
 
-    // Whether the class number was given, which is refused with 9 where it was not.
-    // Stays: that a and b were given is a clause of four functions. It holds of this register alone, and no number keeps which.
-    pub(crate) fn given(&self, class: usize) -> Result<(), Denial>
+    // The entry by which the class stands; none for class 0, which is nothing. Refused with 9 where the number was not given.
+    #[tactic(auto, unfolding(crate::specs::Registers::stand))]
+    pub(crate) fn stand(&self, class: usize) -> Result<Option<usize>, Denial>
         ensures given { OnOk result (class ≤ length (classes_of self.now)) }
+        ensures value { IfOk result (λ entry. entry ≡ stand (classes_of self.now) class) }
+        ensures few { IfOk result (λ entry. IfSome entry (λ e. e < 60)) }
         ensures refused { IfErr result (λ d. (length (classes_of self.now) < class) × (d ≡ Denial.Class class)) }
     {
         if class > self.class_count() {
             return Err(Denial::Class(class));
         }
-        Ok(())
+        if class == 0 {
+            return Ok(None);
+        }
+        Ok(Some(self.classes.as_slice()[class - 1] as usize))
     }
 }

@@ -1,10 +1,9 @@
 // Showing: a world that holds two classes apart.
-ghost use Rattle.std.specs.Prelude.{◌≡◌, ◌-◌, ◌<◌, ◌≤◌, length, replicate, IfOk, IfSome};
+ghost use Rattle.std.specs.Prelude.{◌≡◌, ◌<◌, length, replicate, IfOk, IfSome};
 ghost use Rattle.search.specs.Nodes.{blank, labels, Says};
-ghost use Rattle.runs.specs.Setups.{apart};
-ghost use Rattle.runs.specs.Steps.{Call, showed_world, showing, step};
+ghost use Rattle.runs.specs.Steps.{Call, showed_world, step};
 ghost use Rattle.register.specs.Registers.{setup_of, classes_of, reply_of, done};
-ghost use Rattle.register.specs.Showing.{side_number, shown_reply, seed_of_apart};
+ghost use Rattle.register.specs.Showing.{side_number, shown_reply, apart_by, separating};
 
 use crate::Register;
 use crate::searches::{rooted, seed_not, seed_one};
@@ -12,7 +11,6 @@ use denial::Denial;
 use drawing::draw;
 use found::Found;
 use search::{NoRoom, Node, Workspace, wipe};
-use tableau::Label;
 
 // The class that individual 0 of a world that was shown is of: the first of the two asked for, and not the second, or the
 // other way round.
@@ -44,68 +42,69 @@ impl Register {
         ensures { done (reply_of shown_reply result) self.now nodes.new sheet.new ≡ step (setup_of self.now) (classes_of self.now) (Call.show a b (length nodes.old) sheet.old) }
     {
         let workspace = Workspace(nodes);
-        self.given(a)?;
-        self.given(b)?;
+        let first = self.stand(a)?;
+        let second = self.stand(b)?;
         if a == b {
             return Err(Denial::Equal(a));
         }
         wipe(workspace.0);
-        self.separate(a, b, workspace.0, sheet)
+        self.separate(a, first, second, workspace.0, sheet)
     }
 
-    // The same for different numbers that were given.
-    #[tactic(auto, using(search::proofs::Steps::all_blank), unfolding(runs::specs::Steps::showing))]
+    // The same for different classes, by the entries by which they stand.
+    #[tactic(auto, using(search::proofs::Steps::all_blank))]
     fn separate(
         &self,
         a: usize,
-        b: usize,
+        first: Option<usize>,
+        second: Option<usize>,
         nodes: &mut [Node],
         sheet: &mut [u64],
     ) -> Result<Shown, Denial>
-        requires a { a ≤ length (classes_of self.now) }
-        requires b { b ≤ length (classes_of self.now) }
+        requires first { IfSome first (λ e. e < 60) }
+        requires second { IfSome second (λ e. e < 60) }
         requires blank { nodes.old ≡ replicate (length nodes.old) blank }
-        ensures reply { reply_of shown_reply result ≡ (showing (setup_of self.now) (classes_of self.now) a b (length nodes.old) sheet.old).reply }
-        ensures sheet { sheet.new ≡ (showing (setup_of self.now) (classes_of self.now) a b (length nodes.old) sheet.old).sheet }
+        ensures reply { reply_of shown_reply result ≡ (separating (setup_of self.now) a first second (length nodes.old) sheet.old).reply }
+        ensures sheet { sheet.new ≡ (separating (setup_of self.now) a first second (length nodes.old) sheet.old).sheet }
     {
-        if let Some(m) = self.apart(a, b, nodes).map_err(|_| Denial::Room(a))? {
+        if let Some(m) = self
+            .apart(first, second, nodes)
+            .map_err(|_| Denial::Room(a))?
+        {
             return self.put_on(&nodes[..m], Side::First, sheet);
         }
-        match self.apart(b, a, nodes).map_err(|_| Denial::Room(a))? {
+        match self
+            .apart(second, first, nodes)
+            .map_err(|_| Denial::Room(a))?
+        {
             Some(m) => self.put_on(&nodes[..m], Side::Second, sheet),
             None => Err(Denial::Equal(a)),
         }
     }
 
-    // The search for an individual of class a that is not of class b. Class 0 has none, and needs no search.
-    #[tactic(auto, using(search::proofs::Steps::blank_all, crate::proofs::Showing::some_node), unfolding(runs::specs::Setups::apart))]
-    fn apart(&self, a: usize, b: usize, nodes: &mut [Node]) -> Result<Option<usize>, NoRoom>
-        requires a { a ≤ length (classes_of self.now) }
-        requires b { b ≤ length (classes_of self.now) }
+    // The search for an individual of the one class that is not of the other. Class 0, which stands by no entry, has none, and
+    // needs no search.
+    #[tactic(auto, using(search::proofs::Steps::blank_all, crate::proofs::Showing::some_node))]
+    fn apart(
+        &self,
+        inside: Option<usize>,
+        outside: Option<usize>,
+        nodes: &mut [Node],
+    ) -> Result<Option<usize>, NoRoom>
+        requires inside { IfSome inside (λ e. e < 60) }
+        requires outside { IfSome outside (λ e. e < 60) }
         requires blank { nodes.old ≡ replicate (length nodes.old) blank }
-        ensures says { Says nodes.new result (apart (setup_of self.now) (classes_of self.now) a b (length nodes.old)) }
+        ensures says { Says nodes.new result (apart_by (setup_of self.now) inside outside (length nodes.old)) }
         ensures some { IfOk result (λ found. IfSome found (λ m. 0 < m)) }
     {
-        if a == 0 {
+        let Some(entry) = inside else {
             return Ok(None);
-        }
-        let seed = self.seed_apart(a, b);
+        };
+        let seed = match outside {
+            Some(other) => seed_not(entry, other),
+            None => seed_one(entry),
+        };
         model::find_in_blank(&self.plan, nodes, rooted(&self.plan, seed))
-    }
-
-    // The seed of "a not b"; where b is 0, of "a" alone.
-    fn seed_apart(&self, a: usize, b: usize) -> Label
-        requires some { 0 < a }
-        requires a { a ≤ length (classes_of self.now) }
-        requires b { b ≤ length (classes_of self.now) }
-        ensures { result ≡ seed_of_apart (classes_of self.now) a b }
-    {
-        let stands = self.classes.as_slice();
-        let first = stands[a - 1] as usize;
-        if b == 0 {
-            return seed_one(first);
-        }
-        seed_not(first, stands[b - 1] as usize)
     }
 
     // Writes the world that was found in the nodes on the sheet.
