@@ -72,6 +72,7 @@ pub enum Denial {
     Individuals(usize),
 }
 
+// Stays: each denial has `report` beside its conversion, since a caller that has one and wants its number names no type.
 impl TrailerDenial {
     pub fn report(self) -> Report
         ensures { result ≡ trailer_report self }

@@ -31,9 +31,6 @@ impl<'p> Strategy for Planned<'p> {
     }
 }
 
-// Stays: `find` and `has_world` stand beside `find_in_blank` and `tried`, which ask for blank nodes and wipe no more than was
-// written. With many lent nodes a wipe of all of them is the dearest part of a small search.
-
 // Searches from the seed in the lent nodes. Where it stands, the labels of the first so many nodes are the standing list,
 // and the other nodes are blank; where it fails, the answer is `None` and every node is blank.
 #[tactic(auto, using(crate::proofs::Same::find_same))]
@@ -53,6 +50,8 @@ pub fn has_world(plan: &Plan, nodes: &mut [Node], seed: Label) -> Result<bool, N
 }
 
 // The same as `find`, in nodes that are blank.
+// Stays: `find` and `has_world` stand beside `find_in_blank` and `tried`, which ask for blank nodes and wipe no more than was
+// written. With many lent nodes a wipe of all of them is the dearest part of a small search.
 // Stays: that they are blank is a clause here and in `tried`, as in `search`: a struct that carries it needs as many clauses.
 #[tactic(auto, using(crate::proofs::Same::find_same))]
 pub fn find_in_blank(plan: &Plan, nodes: &mut [Node], seed: Label) -> Result<Option<usize>, NoRoom>

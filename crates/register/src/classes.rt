@@ -7,7 +7,8 @@ use std::marker::Model;
 // The most classes besides class 0.
 const MOST: usize = 24;
 
-// Stays: the register takes no heap, so that they are a fixed array with their number beside it; the model is their list.
+// Stays: no heap, and no library is trusted beyond the standard one, so they are a fixed array with their number beside it. The
+// kit's `ArrayVec` proved as well.
 #[derive(Drop)]
 pub(crate) struct Classes {
     entries: [u8; MOST],

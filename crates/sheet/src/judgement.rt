@@ -28,6 +28,7 @@ pub(crate) fn extensions<W: World>(world: &W, book: &Book, n: usize) -> [u64; 64
     requires { n ≤ (says (view book.now)).entries }
     ensures { (i : ℕ) → i < n → slice_index result i ≡ set_of (W.World.interpretation world.now).size (holds (W.World.interpretation world.now) (says (view book.now)).concept i) }
 {
+    // Stays: the library takes no heap, so the sets are a fixed array, of which the first n are made.
     let mut sets = [0; 64];
     // Stays: each set is made from those of the entries below it, so no chain over the entries is plainer.
     for i in 0..n {
@@ -56,7 +57,6 @@ fn extension<W: World>(world: &W, concept: Concept, sets: &[u64; 64]) -> u64
 }
 
 // The individuals that bear the name n.
-// Stays: a world, a role and an individual go together in what follows, and that x is one of the world: each call has others.
 pub fn bearers<W: World>(world: &W, n: usize) -> u64
     requires { n < 64 }
     ensures { result ≡ set_of (W.World.interpretation world.now).size (λ x. (W.World.interpretation world.now).bears x n) }
@@ -65,6 +65,8 @@ pub fn bearers<W: World>(world: &W, n: usize) -> u64
 }
 
 // The individuals to which the role r joins x.
+// Stays: a world, a role and an individual go together here and in `keeping`, with the clause that the individual is one of the
+// world. Each call has another role and another individual, so that a struct of them would be made at each.
 pub fn successors<W: World>(world: &W, r: usize, x: usize) -> u64
     requires { x < (W.World.interpretation world.now).size }
     ensures { result ≡ set_of (W.World.interpretation world.now).size (λ y. (W.World.interpretation world.now).joins r x y) }

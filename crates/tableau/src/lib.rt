@@ -17,7 +17,8 @@ pub struct Label {
     pub minus: u64,
 }
 
-// Stays: `i < 64` in three contracts. Entries are plain numbers: a type of their own would be made at each call.
+// Stays: `i < 64` in three contracts. Entries are plain numbers: a type of their own would be made at each call. A sign is a
+// bool, as it is in every definition and theorem of this crate, which would have to name the cases of a type for it.
 impl Label {
     // The label that holds no entry.
     pub const EMPTY: Label = Label { plus: 0, minus: 0 };

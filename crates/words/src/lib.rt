@@ -6,7 +6,8 @@ ghost use Rattle.std.specs.Prelude.{◌≡◌, ℕ, ◌-◌, ◌^◌, ◌<◌, �
 ghost use Rattle.words.specs.Sets.{has, set_of, Tests, Within, Disjoint, Determined, Comprehension};
 
 // Whether k is in the set.
-// Stays: `k < 64` in three contracts, and words by themselves: a set is a word here, and its members are plain numbers.
+// Stays: `k < 64` in three contracts, and words by themselves. Types for a set and a member would be made and taken apart at
+// each call.
 pub fn member(w: u64, k: usize) -> bool
     requires { k < 64 }
     ensures { result ≡ has w k }
@@ -115,6 +116,7 @@ pub fn collect<F: Fn(usize) -> bool>(n: usize, passes: F) -> u64
 }
 
 // The table of 64 words whose word k is what the function gives for k.
+// Stays: what `array::from_fn` asks of a function did not prove where the function is a parameter.
 pub fn tabulate<F: Fn(usize) -> u64>(row: F) -> [u64; 64]
     requires { (k : ℕ) → k < 64 → F.pre row k }
     ensures { (k : ℕ) → k < 64 → F.post row k (slice_index result k) }
