@@ -69,7 +69,9 @@ fn first_stray(words: &[u64], roles: usize) -> Option<usize>
     ensures inside { IfSome result (λ k. k < 64 + roles * slice_index words.now 0) }
 {
     let m = words[0] as usize;
-    (0..NAMES + roles * m).find(|k| is_stray(words[*k + 1], m))
+    words[1..ROWS + roles * m]
+        .iter()
+        .position(|word| is_stray(*word, m))
 }
 
 fn is_stray(word: u64, m: usize) -> bool
