@@ -1,7 +1,7 @@
 -- What is built is a plan of the book under the hierarchy.
-use Rattle.std.proofs.Common.{◌≡◌, ℕ, ◌+◌, ◌<◌, ◌≤◌, Bool, true, false, cond, ◌&&◌, eqb, ltb, leb, List, take, sym, refl, ap, ◌∙◌, subst, ⊎_elim, arith, length-take}
+use Rattle.std.proofs.Common.{◌≡◌, ℕ, ◌+◌, ◌<◌, ◌≤◌, Bool, true, false, cond, ◌&&◌, ltb, List, take, sym, refl, ap, ◌∙◌, subst, ⊎_elim, arith, length-take}
 use Rattle.std.proofs.lemmas.List.{get_or_past, get_or-take}
-use Rattle.std.proofs.lemmas.Bool.{cases_lt, and_parts, and_from, cond-true, lt-ltb, ltb-true, le-leb, eq-eqb}
+use Rattle.std.proofs.lemmas.Bool.{cases_lt, and_parts, and_from, lt-ltb, ltb-true, le-leb}
 use Rattle.std.proofs.lemmas.Bool.Decides.{nat_tests}
 use Rattle.words.specs.Sets.{has}
 use Rattle.denial.specs.Denials.{Answer, granted, denied}
@@ -118,9 +118,3 @@ planned_table H K p h = λ i. record { width = h.width_is i; plain = h.plain_is 
 
 pub planned_box : (H : RoleBox) (K : Book) (p : Plan) → Planned H K p → box_in p ≡ with_universal H
 planned_box H K p h = λ i. record { count = h.count_is i; below = λ r s. h.row_is r s i; transitive = λ r. h.marks_are r i }
-
--- where the hierarchy fits the book, there is a plan
-pub verdict_granted : (H : RoleBox) (K : Book) → Opens H K → granted tt ≡ verdict H K
-verdict_granted H K P =
-    sym (cond-true (eqb H.count K.roles && ltb H.count 64) _ _ (and_from (eqb H.count K.roles) (ltb H.count 64) (eq-eqb H.count K.roles P.roles) (lt-ltb H.count 64 P.few))
-    ∙ cond-true (leb (width_of H K) 64) _ _ (le-leb (width_of H K) 64 P.narrow))
