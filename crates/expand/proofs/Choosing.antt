@@ -1,5 +1,5 @@
 -- The laws of choice words: from 0 on there are all expansions, and from the weight on there is none.
-use Rattle.std.proofs.Common.{◌≡◌, ℕ, zero, suc, ◌+◌, ◌-◌, ◌^◌, ◌≤◌, Bool, true, false, cond, not, ◌&&◌, ◌||◌, eqb, List, [], ◌∷◌, ◌++◌, length, sym, refl, ap, ◌∙◌, ap₂, ⊎_elim, pow-suc, arith, length-append, pow_mono}
+use Rattle.std.proofs.Common.{◌≡◌, ℕ, zero, suc, ◌+◌, ◌-◌, ◌^◌, ◌≤◌, Bool, true, false, cond, not, ◌&&◌, ◌||◌, eqb, List, [], ◌∷◌, ◌++◌, length, refl, ap, ◌∙◌, ap₂, ⊎_elim, pow-suc, arith, length-append, pow_mono}
 use Rattle.std.proofs.lemmas.Bool.{and_parts, and_from, or_cases, or_left, or_right, ne_eqb, cond-true, cond-false, cond_both}
 use Rattle.meaning.specs.declared.Concept.TheVariants.{Nothing, Everything, Name, Not, And, Or, Restriction}
 use Rattle.meaning.proofs.Tests.{any_from, any_some}
@@ -33,10 +33,6 @@ weight_next k =
     let b : suc k - 1 ≡ k = omega arith in
     let e = pow-suc 2 k in
     rw (a, b) (omega (arith, e))
-
-pub weight_is : (k : ℕ) → weight (suc k) ≡ 2 ^ k
-unfolding weight
-weight_is k = ap (λ n. 2 ^ n) (omega arith)
 
 pub weight_few : (k : ℕ) → k ≤ 64 → weight k ≤ 2 ^ 63
 unfolding weight
@@ -213,6 +209,3 @@ from_clash B (suc k) l c e =
     fork_over (λ m. from B k m c) (λ m. from B k m (c - weight k)) l
     (λ m h. from_clash B k m c (clash_grows B l m h e)) (λ m h. from_clash B k m (c - weight k) (clash_grows B l m h e))
     (taken (B.entry k) k l) (taken_over (B.entry k) k l)
-
-pub expand_clash : (B : Table) (k : ℕ) (l : Label) → clash B l ≡ true → expand B k l ≡ []
-expand_clash B k l e = sym (from_zero B k l) ∙ from_clash B k l 0 e

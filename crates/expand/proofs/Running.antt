@@ -51,9 +51,6 @@ skip B l i (suc d) k e free c =
     ∙ skip B l i d (i + d) refl (λ j a b. free j a (omega arith)) c
 
 module _ (B : Table) (k : ℕ) (l : Label) where
-  pub along_self : Along B k l k l
-  along_self = record { few = omega arith; same = λ c. refl }
-
   module _ (left : ℕ) (at : Label) (so : Along B k l left at) where
     pub along_free : (i : ℕ) → i ≤ left → Free at i left → Along B k l i at
     along_free i h free = record {

@@ -1,34 +1,18 @@
 -- A register on a book under the book's own hierarchy.
-use Rattle.std.proofs.Common.{◌≡◌, ℕ, Bool, true, false, cond, ◌&&◌, eqb, ltb, leb, length, refl, ap, ◌∙◌, arith}
+use Rattle.std.proofs.Common.{◌≡◌, ℕ, Bool, true, false, cond, ◌&&◌, eqb, ltb, leb, length, refl, arith}
 use Rattle.std.proofs.lemmas.Bool.{and_parts, leb-true, ltb-true}
 use Rattle.denial.specs.Denials.{Answer, granted, denied, reported}
 use Rattle.denial.specs.declared.Report.{Report}
 use Rattle.denial.specs.declared.Layer.TheVariants.{Register}
-use Rattle.meaning.specs.Orders.{role_box}
 use Rattle.meaning.specs.Books.{Sound}
 use Rattle.book.specs.Sections.{Sections, says}
 use Rattle.roles.specs.Told.{marked}
-use Rattle.roles.specs.Closure.{closure, closure_law}
+use Rattle.roles.specs.Closure.{closure_law}
 use Rattle.roles.specs.Hierarchies.{roles_of}
 use Rattle.tableau.specs.Entries.{Ordered}
 use Rattle.tableau.specs.Working.{width_of}
 use Rattle.tableau.specs.Promises.{Opens}
 use Rattle.plan.specs.Building.{verdict}
-
-twice : (x y : Bool) → (x && (x && y)) ≡ (x && y)
-twice true y = refl
-twice false y = refl
-
--- Rows that answer as the closure of the book does are its hierarchy: equal field by field.
-pub rows_are : (s : Sections) (n : ℕ) (under : ℕ → ℕ → Bool) (passing : ℕ → Bool)
-    → n ≡ length s.roles
-    → ((r t : ℕ) → under r t ≡ closure (length s.roles) s.pairs r t)
-    → ((r : ℕ) → passing r ≡ (ltb r (length s.roles) && marked s.roles r))
-    → role_box n under passing ≡ roles_of s
-rows_are s n under passing count below transitive =
-    let marks : (r : ℕ) → (ltb r n && passing r) ≡ (ltb r (length s.roles) && marked s.roles r) =
-    λ r. ap (λ m. ltb r m && passing r) count ∙ ap (λ p. ltb r (length s.roles) && p) (transitive r) ∙ twice (ltb r (length s.roles)) (marked s.roles r) in
-    λ i. record { count = count i; below = λ r t. below r t i; transitive = λ r. marks r i }
 
 -- the hierarchy of a book is lawful, whatever is told
 rows_ordered : (s : Sections) → Sound (says s) → Ordered (roles_of s)

@@ -1,29 +1,16 @@
 -- From a book to the run of its listing.
-use Rattle.std.proofs.Common.{◌≡◌, ℕ, ◌&&◌, ltb, List, [], length, sym, ap, ◌∙◌, subst, arith}
-use Rattle.words.specs.Sets.{has}
+use Rattle.std.proofs.Common.{◌≡◌, ℕ, List, [], sym, ap, ◌∙◌, subst, arith}
 use Rattle.denial.specs.Denials.{granted, denied, and_then}
 use Rattle.denial.specs.declared.Report.{Report}
 use Rattle.meaning.specs.Orders.{RoleBox}
 use Rattle.book.specs.Sections.{Sections, says}
-use Rattle.roles.specs.Told.{marked}
-use Rattle.roles.specs.Closure.{closure}
-use Rattle.roles.specs.Rows.{related}
-use Rattle.roles.specs.declared.rows.Rows.{Rows}
 use Rattle.roles.specs.Hierarchies.{roles_of}
-use Rattle.plan.specs.Building.{verdict, box_of}
-use Rattle.plan.proofs.Building.{box_same}
+use Rattle.plan.specs.Building.{verdict}
 use Rattle.lines.specs.Listings.{line_of_book}
 use Rattle.runs.specs.Setups.{Setup, setup}
 use Rattle.runs.specs.Runs.{Event, Run, history, Right}
 use Rattle.runs.proofs.Rightness.{runs_by_calls}
 use Rattle.listing.specs.Listings.{filings, lines_of, filing_run, opened_run, listed}
-
--- the closure rows of the book say what its own hierarchy says
-pub rows_same : (s : Sections) (x : Rows) → x.count ≡ length s.roles
-    → ((r t : ℕ) → related x.rows r t ≡ closure (length s.roles) s.pairs r t)
-    → ((r : ℕ) → has x.marks r ≡ (ltb r (length s.roles) && marked s.roles r))
-    → box_of x ≡ roles_of s
-rows_same s x count relation transitive = box_same x (length s.roles) (closure (length s.roles) s.pairs) (marked s.roles) count relation transitive
 
 -- a hierarchy H that says what the book's own says
 module _ (s : Sections) (H : RoleBox) (same : H ≡ roles_of s) where

@@ -1,9 +1,8 @@
 -- What is built is a plan of the book under the hierarchy.
-use Rattle.std.proofs.Common.{◌≡◌, ℕ, ◌+◌, ◌<◌, ◌≤◌, Bool, true, false, cond, ◌&&◌, eqb, ltb, leb, List, take, sym, refl, ap, ◌∙◌, subst, ⊎_elim, arith, length-take}
+use Rattle.std.proofs.Common.{◌≡◌, ℕ, ◌+◌, ◌<◌, ◌≤◌, Bool, true, false, cond, ◌&&◌, ltb, List, take, sym, refl, ap, ◌∙◌, subst, ⊎_elim, arith, length-take}
 use Rattle.std.proofs.lemmas.List.{get_or_past, get_or-take}
-use Rattle.std.proofs.lemmas.Bool.{cases_lt, and_parts, and_from, cond-true, lt-ltb, ltb-true, le-leb, eq-eqb}
+use Rattle.std.proofs.lemmas.Bool.{cases_lt, and_parts, and_from, lt-ltb, ltb-true, le-leb}
 use Rattle.std.proofs.lemmas.Bool.Decides.{nat_tests}
-use Rattle.words.specs.Sets.{has}
 use Rattle.denial.specs.Denials.{Answer, granted, denied}
 use Rattle.denial.specs.declared.Report.{Report}
 use Rattle.meaning.specs.Books.{Book, Sound}
@@ -12,8 +11,6 @@ use Rattle.meaning.specs.Universal.{universal_size, universal_passing, with_univ
 use Rattle.meaning.specs.declared.Concept.TheVariants.{Nothing, Everything, Name, Not, And, Or, Restriction}
 use Rattle.meaning.specs.declared.Quantifier.{Quantifier}
 use Rattle.meaning.proofs.Tests.{all_from}
-use Rattle.roles.specs.Rows.{related}
-use Rattle.roles.specs.declared.rows.Rows.{Rows}
 use Rattle.tableau.specs.declared.Entry.{Entry}
 use Rattle.tableau.specs.declared.Entry.TheVariants.{Plain, Inclusion, Inclusions}
 use Rattle.tableau.specs.Entries.{LowerEntry}
@@ -25,7 +22,7 @@ use Rattle.tableau.proofs.Tabling.{lower, tabled}
 use Rattle.plan.specs.declared.Plan.{Plan}
 use Rattle.plan.specs.Plans.{listed_entry, listed_role, is_lower, lowered}
 use Rattle.plan.specs.Meanings.{table_in, box_in}
-use Rattle.plan.specs.Building.{Planned, verdict, box_of}
+use Rattle.plan.specs.Building.{Planned, verdict}
 
 lower_test : (i : ℕ) (e : Entry) → LowerEntry i e → is_lower i e ≡ true
 lower_test i (Plain Nothing) h = refl
@@ -96,18 +93,6 @@ layer_granted {A} n x y r e = go (ltb n 64) refl e
     go true t f = (ltb-true n 64 t, cc)
     go false t f = absurd (let z : ◌≡◌ {A = ℕ} 0 1 = cc in omega arith)
 
-and_twice : (a b : Bool) → (a && (a && b)) ≡ (a && b)
-and_twice true b = refl
-and_twice false b = refl
-
--- rows that were copied from a hierarchy say what it says
-pub box_same : (x : Rows) (n : ℕ) (under : ℕ → ℕ → Bool) (passing : ℕ → Bool) → x.count ≡ n → ((r s : ℕ) → related x.rows r s ≡ under r s)
-    → ((r : ℕ) → has x.marks r ≡ (ltb r n && passing r)) → box_of x ≡ role_box n under passing
-box_same x n under passing count relation transitive =
-    let marks : (r : ℕ) → (ltb r x.count && has x.marks r) ≡ (ltb r n && passing r)
-    = λ r. ap (λ m. ltb r m && has x.marks r) count ∙ ap (λ b. ltb r n && b) (transitive r) ∙ and_twice (ltb r n) (passing r) in
-    λ i. record { count = count i; below = λ r s. relation r s i; transitive = λ r. marks r i }
-
 -- what holds of a result for one hierarchy holds of it for its like
 pub answer_like : (G H : RoleBox) (K : Book) (a : Answer (Unit {0})) → G ≡ H → a ≡ verdict G K → a ≡ verdict H K
 answer_like G H K a same e = e ∙ ap (λ B. verdict B K) same
@@ -118,9 +103,3 @@ planned_table H K p h = λ i. record { width = h.width_is i; plain = h.plain_is 
 
 pub planned_box : (H : RoleBox) (K : Book) (p : Plan) → Planned H K p → box_in p ≡ with_universal H
 planned_box H K p h = λ i. record { count = h.count_is i; below = λ r s. h.row_is r s i; transitive = λ r. h.marks_are r i }
-
--- where the hierarchy fits the book, there is a plan
-pub verdict_granted : (H : RoleBox) (K : Book) → Opens H K → granted tt ≡ verdict H K
-verdict_granted H K P =
-    sym (cond-true (eqb H.count K.roles && ltb H.count 64) _ _ (and_from (eqb H.count K.roles) (ltb H.count 64) (eq-eqb H.count K.roles P.roles) (lt-ltb H.count 64 P.few))
-    ∙ cond-true (leb (width_of H K) 64) _ _ (le-leb (width_of H K) 64 P.narrow))

@@ -1,3 +1,4 @@
 pub mod Closures
 pub mod Rounds
 pub mod Filling
+pub mod Boxes

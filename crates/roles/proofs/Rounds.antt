@@ -2,7 +2,8 @@
 use Rattle.std.proofs.Common.{◌≡◌, ℕ, zero, suc, ◌+◌, ◌*◌, ◌/◌, ◌^◌, ◌<◌, ◌≤◌, true, false, List, [], length, get_or, drop, Decides, sym, refl, ap, ◌∙◌, subst, inr, ⊎_elim, add-one, arith}
 use Rattle.std.specs.Simd.{first_chunks}
 use Rattle.std.proofs.lemmas.List.{get_or-take, get_or-drop}
-use lib.Bits.{bit_or, or_add_and, and_le_r}
+use lib.Bits.{bit_or}
+use Rattle.std.proofs.lemmas.Nat.{le_or_l}
 use Rattle.std.proofs.lemmas.Bool.{cases_eq, cond_both, cond-true, cond-false, or_cases, or_left, or_right, eqb-true, eq-eqb}
 use Rattle.words.specs.Sets.{has}
 use Rattle.words.proofs.Words.{has_or, has_single}
@@ -27,13 +28,10 @@ pair_at bytes pairs k e l = rw e (
   pair_byte (length bytes / 2) k 1 (2 * k + 1) bytes l (omega arith) refl,
 )
 
-or_above : (a b : ℕ) → a ≤ bit_or a b
-or_above a b = omega (arith, or_add_and a b, and_le_r a b)
-
 followed_above : (pairs : List ℕ) (k set : ℕ) → set ≤ followed pairs k set
 followed_above pairs k set =
     cond_both (has set (get_or pairs (2 * k) 0)) (bit_or set (2 ^ get_or pairs (2 * k + 1) 0)) set (λ w. set ≤ w)
-    (λ _. or_above set (2 ^ get_or pairs (2 * k + 1) 0)) (λ _. omega arith)
+    (λ _. le_or_l set (2 ^ get_or pairs (2 * k + 1) 0)) (λ _. omega arith)
 
 -- one pair more: its upper role comes in, or the set stays
 pub round_adds : (pairs : List ℕ) (k set found w : ℕ) → found ≡ round_to pairs k set → has found (get_or pairs (2 * k) 0) ≡ true

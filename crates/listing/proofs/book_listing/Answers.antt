@@ -1,10 +1,11 @@
 use Rattle.std.proofs.Common.{◌≡◌, IfOk, vec_items, ap, ◌∙◌, subst}
 use Rattle.denial.specs.Denials.{denial_report}
 use Rattle.book.specs.Views.{view}
+use Rattle.roles.proofs.Boxes.{closed_same}
 use Rattle.lines.specs.Listings.{line_of_book}
 use Rattle.plan.specs.Building.{box_of}
 use Rattle.register.specs.Registers.{setup_of, classes_of}
-use Rattle.listing.proofs.Opening.{rows_same, opened_lines, opened_right, refused_line, refused_never}
+use Rattle.listing.proofs.Opening.{opened_lines, opened_right, refused_line, refused_never}
 use Rattle.listing.proofs.book_listing.Goals as goal
 
 pub returns-in-Ok : goal.returns-in-Ok
@@ -12,7 +13,7 @@ returns-in-Ok c =
     let s = view c.args.book.now in
     let x = c.closed.result in
     let rows = c.closed.ensures in
-    let same = rows_same s x rows.count rows.relation rows.transitive in
+    let same = closed_same s x rows.count rows.relation rows.transitive in
     let g = c.in-Ok.register in
     let o = c.in-Ok.ensures in
     let n = c.entry_count.result in
@@ -28,7 +29,7 @@ returns-in-Err c =
     let s = view c.args.book.now in
     let x = c.closed.result in
     let rows = c.closed.ensures in
-    let same = rows_same s x rows.count rows.relation rows.transitive in
+    let same = closed_same s x rows.count rows.relation rows.transitive in
     let d = denial_report c.in-Err.denial in
     let o = c.in-Err.ensures in
     record {

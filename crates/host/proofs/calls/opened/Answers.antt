@@ -1,12 +1,10 @@
 use Rattle.std.proofs.Common.{◌≡◌, IfOk, ap, ◌∙◌, subst}
-use Rattle.words.specs.Sets.{has}
 use Rattle.book.specs.Sections.{says}
 use Rattle.book.specs.Views.{view}
-use Rattle.roles.specs.Rows.{related}
+use Rattle.roles.proofs.Boxes.{closed_same}
 use Rattle.plan.specs.Building.{verdict}
 use Rattle.runs.specs.Setups.{setup}
 use Rattle.register.specs.Registers.{setup_of}
-use Rattle.host.proofs.Opening.{rows_are}
 use Rattle.host.proofs.calls.opened.Goals as goal
 
 pub returns-clause-answer : goal.returns-clause-answer
@@ -14,11 +12,11 @@ returns-clause-answer c =
     let s = view c.args.book.now in
     let x = c.closed.result in
     let e = c.closed.ensures in
-    c.open.ensures.answer ∙ ap (λ H. verdict H (says s)) (rows_are s x.count (related x.rows) (has x.marks) e.count e.relation e.transitive)
+    c.open.ensures.answer ∙ ap (λ H. verdict H (says s)) (closed_same s x e.count e.relation e.transitive)
 
 pub returns-clause-setup : goal.returns-clause-setup
 returns-clause-setup c =
     let s = view c.args.book.now in
     let x = c.closed.result in
     let e = c.closed.ensures in
-    subst (λ H. IfOk c.open.result (λ g. setup_of g ≡ setup H (says s))) (rows_are s x.count (related x.rows) (has x.marks) e.count e.relation e.transitive) c.open.ensures.setup
+    subst (λ H. IfOk c.open.result (λ g. setup_of g ≡ setup H (says s))) (closed_same s x e.count e.relation e.transitive) c.open.ensures.setup

@@ -2,8 +2,9 @@ use Rattle.std.proofs.Common.{IfOk, subst}
 use Rattle.book.specs.Sections.{says}
 use Rattle.book.specs.Views.{view}
 use Rattle.meaning.specs.Orders.{RoleBox, role_box}
+use Rattle.roles.proofs.Boxes.{rows_same}
 use Rattle.plan.specs.Building.{Planned, Fitting, box_of}
-use Rattle.plan.proofs.Building.{box_same, answer_like}
+use Rattle.plan.proofs.Building.{answer_like}
 use Rattle.plan.proofs.Plan.new.Goals as goal
 
 pub returns : goal.returns
@@ -12,7 +13,7 @@ returns g c =
     let b = c.copied-base in
     let K = says (view c.args.book.now) in
     let H = role_box (g.H.Order.size h) (g.H.Order.under h) (g.H.Hierarchy.passing h) in
-    let same = box_same b.result (g.H.Order.size h) (g.H.Order.under h) (g.H.Hierarchy.passing h) b.ensures.count b.ensures.relation b.ensures.transitive in
+    let same = rows_same b.result (g.H.Order.size h) (g.H.Order.under h) (g.H.Hierarchy.passing h) b.ensures.count b.ensures.relation b.ensures.transitive in
     record {
       answer = answer_like (box_of b.result) H K _ same c.over.ensures.answer;
       planned = subst (λ (G : RoleBox). IfOk c.over.result (Planned G K)) same c.over.ensures.planned;
