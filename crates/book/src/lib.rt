@@ -13,6 +13,11 @@ pub mod read;
 mod records;
 pub mod trailer;
 
+// What the record of a role is: a byte, and reading lets no other pass.
+pub const PLAIN: u8 = 0;
+
+pub const TRANSITIVE: u8 = 1;
+
 // How many records each section has.
 #[derive(Clone, Copy)]
 struct Counts {
@@ -23,7 +28,7 @@ struct Counts {
 }
 
 // A book that was read: a copy of its four sections, every record of them found good.
-// Stays: arrays with counts beside them, since the register takes no heap and copies its book.
+// Stays: arrays with counts beside them, since no heap is taken and a book outlives the bytes that it was read from.
 #[derive(Clone, Copy)]
 pub struct Book {
     counts: Counts,

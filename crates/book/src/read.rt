@@ -3,13 +3,13 @@ ghost use Rattle.std.specs.Prelude.{◌≡◌, ◌+◌, ◌/◌, ◌<◌, ◌≤
 ghost use Rattle.denial.specs.Denials.{answer, record_report};
 ghost use Rattle.meaning.specs.Books.{Sound};
 ghost use Rattle.book.specs.Sections.{says};
-ghost use Rattle.book.specs.Records.{both_within, named, fitting, fitting_at, lowest_bad_role, lowest_unfit, lowest_bad_concept, faultless};
+ghost use Rattle.book.specs.Records.{named, fitting, lowest_bad_role, lowest_unfit, lowest_bad_concept, faultless};
 ghost use Rattle.book.specs.Reading.{cut, checking, reading};
 ghost use Rattle.book.specs.Views.{view, held};
 
 use crate::kind::{Kind, UnknownKind};
-use crate::trailer::{Layout, read_layout};
-use crate::{Book, Counts, Lent};
+use crate::trailer::read_layout;
+use crate::{Book, Counts, Lent, PLAIN, TRANSITIVE};
 use denial::RecordDenial;
 
 const NAMES: u8 = 64;
@@ -99,7 +99,9 @@ fn first_bad_role(roles: &[u8]) -> Option<usize>
     ensures value { result ≡ lowest_bad_role roles.now }
     ensures inside { IfSome result (λ k. k < length roles.now) }
 {
-    roles.iter().position(|role| *role >= 2)
+    roles
+        .iter()
+        .position(|role| !matches!(*role, PLAIN | TRANSITIVE))
 }
 
 // The first record of two bytes that are not both below n.
@@ -107,37 +109,25 @@ fn first_unfit(n: usize, records: &[u8]) -> Option<usize>
     ensures value { result ≡ lowest_unfit n records.now }
     ensures inside { IfSome result (λ k. k < length records.now / 2) }
 {
-    (0..records.len() / 2).find(|k| !both_below(records, *k, n))
+    let (pairs, _) = records.as_chunks::<2>();
+    pairs
+        .iter()
+        .position(|[a, b]| (*a as usize) >= n || (*b as usize) >= n)
 }
 
 fn first_bad_concept(roles: usize, concepts: &[u8]) -> Option<usize>
     ensures value { result ≡ lowest_bad_concept roles concepts.now }
     ensures inside { IfSome result (λ k. k < length concepts.now / 4) }
 {
-    (0..concepts.len() / 4).find(|k| !operands_fit(roles, concepts, *k)
-        || concepts[4 * *k + 3] != 0)
-}
-
-// Whether both bytes of record k, of two bytes, are below n.
-fn both_below(records: &[u8], k: usize, n: usize) -> bool
-    requires { k < length records.now / 2 }
-    ensures { result ≡ both_within n records.now k }
-{
-    (records[2 * k] as usize) < n && (records[2 * k + 1] as usize) < n
-}
-
-// Whether the operands of entry i fit its kind.
-fn operands_fit(roles: usize, concepts: &[u8], i: usize) -> bool
-    requires { i < length concepts.now / 4 }
-    ensures { result ≡ fitting_at roles concepts.now i }
-{
-    let b = concepts[4 * i + 1];
-    let taken = named_before(concepts, i, b);
-    fits(roles, i, taken, concepts[4 * i], b, concepts[4 * i + 2])
+    let (entries, _) = concepts.as_chunks::<4>();
+    entries.iter().enumerate().position(|(i, [kind, b, c, last])| {
+        let taken = named_before(concepts, i, *b);
+        !fits(roles, i, taken, *kind, *b, *c) || *last != 0
+    })
 }
 
 // Whether entry i may have this kind and these operands; `taken` says that an entry before it has the name.
-// Stays: the kind is a byte of the format until `Kind::try_from` has read it, here and in `decoded`.
+// Stays: the kind is a byte of the format until `Kind::try_from` has read it, and a byte of no kind fits nowhere.
 #[tactic(auto, unfolding(crate::specs::Records::fitting))]
 fn fits(roles: usize, i: usize, taken: bool, kind: u8, b: u8, c: u8) -> bool
     ensures { result ≡ fitting roles i taken kind b c }
@@ -157,6 +147,7 @@ fn named_before(concepts: &[u8], i: usize, name: u8) -> bool
     requires { i ≤ length concepts.now / 4 }
     ensures { result ≡ named concepts.now i name }
 {
-    (0..i).any(|j| matches!(Kind::try_from(concepts[4 * j]), Ok(Kind::Name))
-        && concepts[4 * j + 1] == name)
+    let (entries, _) = concepts.as_chunks::<4>();
+    entries.iter().take(i).any(|[kind, b, ..]| matches!(Kind::try_from(*kind), Ok(Kind::Name))
+        && *b == name)
 }

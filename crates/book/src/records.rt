@@ -32,7 +32,7 @@ impl Book {
         self.counts.rules
     }
 
-    // The role section: a byte for each role, 0 plain and 1 transitive.
+    // The role section: a byte for each role, `PLAIN` or `TRANSITIVE`.
     pub fn roles(&self) -> &[u8]
         ensures value { result.now ≡ (view self.now).roles }
         ensures few { length result.now ≤ 64 }
@@ -81,6 +81,7 @@ impl Book {
 }
 
 // The concept of a record of this kind, with these operands.
+// Stays: the kind is a byte of the format until `Kind::try_from` has read it, and a byte of no kind is nothing.
 #[tactic(auto, unfolding(crate::specs::Sections::decode))]
 fn decoded(kind: u8, b: u8, c: u8) -> Concept
     ensures { result ≡ decode kind b c }

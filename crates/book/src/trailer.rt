@@ -92,6 +92,7 @@ pub fn read_layout(bytes: &[u8]) -> Result<Layout, TrailerDenial>
 }
 
 // The bytes of a book that has a trailer, and where the trailer starts. Its methods take a section by its number.
+// Stays: a refusal tells where the field of a section is, which is counted by the number of the section.
 #[derive(Clone, Copy)]
 struct Trailer<'a> {
     bytes: &'a [u8],
