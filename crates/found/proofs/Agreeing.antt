@@ -16,19 +16,15 @@ use Rattle.plan.specs.declared.Plan.{Plan}
 use Rattle.plan.specs.Meanings.{table_in, box_in}
 use Rattle.search.specs.declared.Node.{Node}
 use Rattle.search.specs.Nodes.{blank, label_of, labels}
+use Rattle.successor.proofs.Labels.{less_than_power}
 use Rattle.sheet.proofs.Sets.{has_set}
 use Rattle.found.specs.Founds.{found_in, is_name_in, edge_in, joined_to, kept_world}
 use Rattle.found.proofs.Naming.{NamedTo}
 use Rattle.found.proofs.Spreading.{TableTo}
 
--- a number is a word of as many bits
-less_power : (n : ℕ) → n < 2 ^ n
-less_power zero = omega arith
-less_power (suc n) = omega (arith, less_power n, pow-suc 2 n)
-
 -- a number with no member is 0
 none_zero : (w : ℕ) → ((k : ℕ) → has w k ≡ false) → w ≡ 0
-none_zero w none = same_set w w 0 (less_power w) (omega (arith, less_power w)) (λ k _. none k ∙ sym (has_none k))
+none_zero w none = same_set w w 0 (less_than_power w) (omega (arith, less_than_power w)) (λ k _. none k ∙ sym (has_none k))
 
 -- two sets meet, the second of them the numbers below n of which p holds
 meet_is : (a b n : ℕ) (p : ℕ → Bool) → ((j : ℕ) → has b j ≡ (ltb j n && p j)) → not (eqb (bit_and a b) 0) ≡ any n (λ i. has a i && p i)

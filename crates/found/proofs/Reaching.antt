@@ -36,7 +36,3 @@ pub pass_more : (m k : ℕ) (R : ℕ → ℕ → Bool) (was is : List ℕ) → m
 pass_more m k R was is few l passed before x h =
     passed x h ∙ ap (λ w. by_way_of k w (get_or was x 0)) (before k l) ∙ ap (by_way_of k (set_of m (reach k R k))) (before x h)
     ∙ row_more m k x R few l (reach k R x k) refl ∙ ap (λ n. set_of m (reach n R x)) (sym (add-one k))
-
--- after as many passes as there are rows every number below m is an inner place
-pub pass_all : (m k : ℕ) (R : ℕ → ℕ → Bool) (rows : List ℕ) → k ≡ m → RowsOf m (reach k R) rows → RowsOf m (reach m R) rows
-pass_all m k R rows e whole x h = whole x h ∙ ap (λ n. set_of m (reach n R x)) e

@@ -1,6 +1,7 @@
 -- The table of what the roles join, role by role.
-use Rattle.std.proofs.Common.{◌≡◌, ℕ, ◌+◌, ◌*◌, ◌<◌, ◌≤◌, Bool, true, false, ◌&&◌, eqb, List, length, get_or, replicate, sym, refl, ap, ◌∙◌}
+use Rattle.std.proofs.Common.{◌≡◌, ℕ, ◌+◌, ◌*◌, ◌<◌, ◌≤◌, Bool, true, false, ◌&&◌, eqb, List, ◌++◌, length, take, get_or, replicate, sym, refl, ap, ◌∙◌, subst, arith}
 use lib.Bits.{bit_or}
+use Rattle.std.proofs.lemmas.List.{length-take, get_or-take, get_or_append_left}
 use Rattle.words.specs.Sets.{has, set_of}
 use Rattle.meaning.specs.Chains.{reach}
 use Rattle.plan.specs.declared.Plan.{Plan}
@@ -20,6 +21,15 @@ chains_none m n b R few e x h =
 -- a transitive one has them all
 pub chains_all : (m : ℕ) (b : Bool) (R : ℕ → ℕ → Bool) (rows : List ℕ) → b ≡ true → RowsOf m (reach m R) rows → RowsOf m (chains_of b m R) rows
 chains_all m b R rows e whole x h = whole x h ∙ set_same m (reach m R x) (chains_of b m R x) (λ y _. ap (λ b. b && reach m R x y) (sym e))
+
+-- where the first m rows are closed, the rest is left out of account
+pub front_closed : (m : ℕ) (R : ℕ → ℕ → Bool) (was closed rest : List ℕ) → m ≤ length was → length closed ≡ m
+    → (RowsOf (length (take m was)) R (take m was) → RowsOf (length (take m was)) (reach (length (take m was)) R) closed)
+    → RowsOf m R was → RowsOf m (reach m R) (closed ++ rest)
+front_closed m R was closed rest few same closes before x h =
+    let n : length (take m was) ≡ m = length-take m was ∙ omega arith in
+    get_or_append_left closed rest 0 x (omega arith)
+    ∙ subst (λ k. RowsOf k R (take m was) → RowsOf k (reach k R) closed) n closes (λ y l. get_or-take m was y 0 l ∙ before y l) x h
 
 -- a row with its share joined to it has what the role adds
 pub added_is : (p : Plan) (nodes : List Node) (q t x was is : ℕ) (own far : List ℕ) → length nodes ≤ 64 → x < length nodes → RowsOf (length nodes) (edge_in p (labels nodes) q) own

@@ -60,14 +60,20 @@ impl<'a> Edges<'a> {
         set
     }
 
+    // The individuals to which x has an edge, none where x is no individual.
+    fn row(&self, x: usize) -> u64
+        ensures { x < length self.now.nodes.now → result ≡ set_of (length self.now.nodes.now) (edge_in self.now.plan.now (labels self.now.nodes.now) self.now.role x) }
+    {
+        let Some(node) = self.nodes.get(x) else {
+            return 0;
+        };
+        self.targets(node.label)
+    }
+
     // The same for each individual.
     pub fn rows(&self) -> [u64; 64]
         ensures { RowsOf (length self.now.nodes.now) (edge_in self.now.plan.now (labels self.now.nodes.now) self.now.role) result }
     {
-        let mut rows = [0; 64];
-        for (x, node) in self.nodes.iter().enumerate() {
-            rows[x] = self.targets(node.label);
-        }
-        rows
+        words::tabulate(|x| self.row(x))
     }
 }

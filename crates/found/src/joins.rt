@@ -13,6 +13,7 @@ use search::Node;
 pub const ROWS: usize = 64;
 
 // The rows of all roles: row x of the role r is at 64 * r + x.
+// Stays: one array, and not one for each role: a row is one multiplication away, and each clause names it by one number.
 const TABLE: usize = 4096;
 
 // The set, or none.
@@ -53,7 +54,7 @@ impl<'a> Edges<'a> {
             return [0; 64];
         }
         let mut rows = edges;
-        closure::close(&mut rows, self.nodes.len());
+        closure::close(&mut rows[..self.nodes.len()]);
         rows
     }
 

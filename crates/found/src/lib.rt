@@ -1,11 +1,11 @@
 // The world that a search has found, over the nodes that it leaves.
 #![tactic(auto)]
 
-ghost use Rattle.std.specs.Prelude.{◌≡◌, ◌≤◌, IfOk, slice_index, slice_index_or};
+ghost use Rattle.std.specs.Prelude.{◌≡◌, ◌<◌, ◌≤◌, IfOk, length};
 ghost use Rattle.denial.specs.Denials.{answer, denial_report};
 ghost use Rattle.meaning.specs.Agreement.{Agree};
 ghost use Rattle.plan.specs.Meanings.{plan_roles};
-ghost use Rattle.search.specs.Nodes.{blank, labels};
+ghost use Rattle.search.specs.Nodes.{labels};
 ghost use Rattle.found.specs.Founds.{found_in, finding, kept_world, kept_sized};
 
 use crate::joins::ROWS;
@@ -32,6 +32,9 @@ pub struct Found<'a> {
     roles: u8,
     names: [u64; 64],
     rows: [u64; 4096],
+    ghost some: { 0 < length nodes.now },
+    ghost few: { length nodes.now ≤ 64 },
+    ghost inside: { roles < 64 },
 }
 
 impl<'a> Found<'a> {
@@ -54,20 +57,6 @@ impl<'a> Found<'a> {
             rows: joins::table(plan, nodes),
         })
     }
-
-    // Row k, empty past the end.
-    fn row(&self, k: usize) -> u64
-        ensures { result ≡ slice_index self.now.rows k }
-    {
-        self.rows.get(k).copied().unwrap_or(0)
-    }
-
-    // The entries that the label of x has with +, none past the end.
-    fn plus(&self, x: usize) -> u64
-        ensures { result ≡ (slice_index_or self.now.nodes.now x blank).label.plus }
-    {
-        self.nodes.get(x).map_or(0, |node| node.label.plus)
-    }
 }
 
 // The roles of the book: all of the plan's but the last.
@@ -84,15 +73,15 @@ impl<'a> World for Found<'a> {
     ghost sized = { λ x. kept_sized x.nodes.now x.roles x.names x.rows };
 
     fn individuals(&self) -> usize {
-        self.nodes.len().clamp(1, MOST)
+        self.nodes.len()
     }
 
     fn bears(&self, x: usize, n: usize) -> bool {
-        x < self.individuals() && n < NAMES && !words::disjoint(self.plus(x), self.names[n])
+        x < self.individuals() && n < NAMES && !words::disjoint(self.nodes[x].label.plus, self.names[n])
     }
 
     fn joins(&self, r: usize, x: usize, y: usize) -> bool {
         let m = self.individuals();
-        r < self.roles as usize && x < m && y < m && words::member(self.row(ROWS * r + x), y)
+        r < self.roles as usize && x < m && y < m && words::member(self.rows[ROWS * r + x], y)
     }
 }

@@ -4,5 +4,5 @@ use Rattle.found.proofs.closure.pass.Given as goal
 
 abbrev pub invariant-loop-row : goal.invariant-loop-row
 invariant-loop-row l =
-    ((y : ℕ) → y < l.row-index → get_or l.row-items y 0 ≡ by_way_of l.k l.middle (get_or l.initial.row-items y 0))
-    × ((y : ℕ) → l.row-index ≤ y → get_or l.row-items y 0 ≡ get_or l.initial.row-items y 0)
+    ((y : ℕ) → y < l.row-index → get_or l.rows y 0 ≡ by_way_of l.k l.middle (get_or l.initial.rows y 0))
+    × ((y : ℕ) → l.row-index ≤ y → get_or l.rows y 0 ≡ get_or l.initial.rows y 0)

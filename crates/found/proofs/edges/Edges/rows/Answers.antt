@@ -1,6 +1,5 @@
-use Rattle.std.proofs.Common.{arith}
-use Rattle.found.proofs.Leading.{targets_of}
+use Rattle.std.proofs.Common.{arith, rules}
 use Rattle.found.proofs.edges.Edges.rows.Goals as goal
 
 pub returns : goal.returns
-returns c = λ x h. let e = c.args.self.now in targets_of e.plan.now e.nodes.now e.role x _ h (c.loop-x.invariant.1 x (omega arith))
+returns c = λ x h. let each = c.tabulate.ensures x (omega (arith, h, c.args.self.now.few)) in search (rules, each, h)
