@@ -30,6 +30,7 @@ pub enum Base {
 #[derive(Clone, Copy, PartialEq, Eq, Debug)]
 pub struct Source {
     pub base: Base,
+    // Stays: a name has the ending or not, whatever its base; a type of two cases would say no more than yes and no.
     pub universal: bool,
 }
 
@@ -79,6 +80,7 @@ impl FromStr for Source {
 }
 
 // A question of roles, which any hierarchy answers.
+// Stays: a closure takes one type of hierarchy, and a question is put to more: to a book's, and to a universal role over it.
 #[derive(Clone, Copy)]
 enum Question {
     // whether the first role is below the second
@@ -118,7 +120,7 @@ impl Question {
 }
 
 // Whether the role r is below s.
-// Stays: a book goes with each question, as the hierarchy or the words do that are asked about: a script changes each by itself.
+// Stays: a book goes with a source here and with the words of a sheet below, and each question has another mix of them.
 pub fn below(book: &Book, source: Source, r: usize, s: usize) -> Result<bool, Denial>
     ensures { answer (λ b. b) denial_report result ≡ below_of source (view book.now) r s }
 {
@@ -133,13 +135,14 @@ pub fn transitive(book: &Book, source: Source, r: usize) -> Result<bool, Denial>
 }
 
 // How many individuals are on the sheet, for what reading the book came to.
+// Stays: a book that was not read is refused here, so that this refusal is part of what is promised of the answer.
 pub fn drawn(book: Result<Book, RecordDenial>, words: &[u64]) -> Result<usize, Denial>
     ensures { answer (λ m. m) denial_report result ≡ and_then (answer view record_report book) (λ s. individuals_of s words.now) }
 {
-    individuals(words, &book?)
+    individuals(&book?, words)
 }
 
-fn individuals(words: &[u64], book: &Book) -> Result<usize, Denial>
+fn individuals(book: &Book, words: &[u64]) -> Result<usize, Denial>
     ensures { answer (λ m. m) denial_report result ≡ individuals_of (view book.now) words.now }
 {
     Ok(Sheet::new(words, book)?.individuals())
