@@ -35,20 +35,16 @@ pub answer_to : (H G : RoleBox) (B : Book) (W : Interpretation) (r : Result Bool
 answer_to H G B W (Ok b) e a = (sym e.count ∙ a.0, ((λ t. keeps_to H G B W e (a.1.0 t)), (λ k. a.1.1 (keeps_to G H B W (turned H G e) k))))
 answer_to H G B W (Err d) e a = ((λ c. a.0 (e.count ∙ c)), a.1 ∙ ap (λ n. reported 12 n Register) e.count)
 
-twice : (x y : Bool) → (x && (x && y)) ≡ (x && y)
-twice true y = refl
-twice false y = refl
-
--- rows that are those of the book's closure
-pub rows_same : (s : Sections) (n : ℕ) (under : ℕ → ℕ → Bool) (passing : ℕ → Bool)
+-- a hierarchy that answers as the book's roles do
+pub base_same : (s : Sections) (n : ℕ) (under : ℕ → ℕ → Bool) (passing : ℕ → Bool)
     → n ≡ length s.roles
     → ((r t : ℕ) → under r t ≡ closure (length s.roles) s.pairs r t)
-    → ((r : ℕ) → passing r ≡ (ltb r (length s.roles) && marked s.roles r))
+    → ((r : ℕ) → (ltb r n && passing r) ≡ (ltb r (length s.roles) && marked s.roles r))
     → Same (role_box n under passing) (roles_of s)
-rows_same s n under passing c b t = record {
+base_same s n under passing c b t = record {
   count = c;
   below = b;
-  transitive = λ r. ap (λ m. ltb r m && passing r) c ∙ ap (λ p. ltb r (length s.roles) && p) (t r) ∙ twice (ltb r (length s.roles)) (marked s.roles r);
+  transitive = t;
 }
 
 abbrev words_of : List ℕ → Answer (List ℕ) → List ℕ

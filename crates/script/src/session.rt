@@ -11,8 +11,6 @@ use lines::{denied, yes_or_no};
 use listing::listing;
 use questions::Base;
 use register::Register;
-use roles::rows::Rows;
-use roles::told::Told;
 use search::Node;
 use std::alloc::{AllocError, Global};
 
@@ -179,8 +177,5 @@ impl Session {
 
 // A register on the book.
 fn opened(book: &Book, base: Base) -> Result<Register, Denial> {
-    match base {
-        Base::Closed => Register::open(book, &Rows::closed(book)),
-        Base::Told => Register::open(book, &Told::new(book)),
-    }
+    Register::open(book, &base.of(book))
 }
