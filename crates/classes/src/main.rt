@@ -6,6 +6,7 @@ use std::io;
 use std::io::{Read, Write};
 
 // One byte more than the longest book has: what is longer yet is refused alike.
+// Stays: `book` keeps that length to itself, and this program builds on `listing` alone.
 const MOST: u64 = 8193;
 
 fn main(rt: HostRuntime) -> io::Result<()> {

@@ -17,8 +17,8 @@ mod tests {
 
     // The plan of the book in the bytes, under its closure rows.
     fn plan_of(bytes: &[u8]) -> Result<Plan, Fail> {
-        let book = read(bytes).map_err(|_| Fail::new("not read"))?;
-        Plan::new(&book, &Rows::closed(&book)).map_err(|_| Fail::new("refused"))
+        let book = read(bytes)?;
+        Ok(Plan::new(&book, &Rows::closed(&book))?)
     }
 
     // Book A: role 0 is transitive and below role 1; entry 5 has no individual in any world that keeps the book.

@@ -1,7 +1,7 @@
 // The worked examples of the register.
 use crate::tests::{A, B};
 use book::read::read;
-use denial::{Denial, Report};
+use denial::Denial;
 use register::{Register, Shown, Side};
 use roles::rows::Rows;
 use search::Node;
@@ -9,8 +9,8 @@ use std::test::Fail;
 
 // A register on the book in the bytes, under its closure rows.
 fn opened(bytes: &[u8]) -> Result<Register, Fail> {
-    let book = read(bytes).map_err(|_| Fail::new("not read"))?;
-    Register::open(&book, &Rows::closed(&book)).map_err(|_| Fail::new("not opened"))
+    let book = read(bytes)?;
+    Ok(Register::open(&book, &Rows::closed(&book))?)
 }
 
 // The number and the detail of a refusal.
@@ -82,7 +82,7 @@ fn sixty_three_roles_open_and_sixty_four_do_not(rt: HostRuntime) -> Result<(), F
     assert_eq!(rt; register.role_count(), 63);
     let book = read(
         b"\x00\x00\x00\x00\x00\x00\x00\x00\x00\x00\x00\x00\x00\x00\x00\x00\x00\x00\x00\x00\x00\x00\x00\x00\x00\x00\x00\x00\x00\x00\x00\x00\x00\x00\x00\x00\x00\x00\x00\x00\x00\x00\x00\x00\x00\x00\x00\x00\x00\x00\x00\x00\x00\x00\x00\x00\x00\x00\x00\x00\x00\x00\x00\x00\x01\x00\x00\x00\x00\x00\x40\x00\x40\x00\x00\x00\x40\x00\x01\x00\x44\x00\x00\x00",
-    ).map_err(|_| Fail::new("not read"))?;
+    )?;
     assert_eq!(rt;
         told(Register::open(&book, &Rows::closed(&book)))?,
         (12, 64)

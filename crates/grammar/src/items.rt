@@ -39,8 +39,8 @@ impl<'a> Items<'a> {
         item
     }
 
-    // All that is left.
-    pub fn rest(&mut self) -> &'a str
+    // Takes all that is left.
+    pub fn take_rest(&mut self) -> &'a str
         ensures all { result.now ≡ self.old.rest.now }
         ensures empty { self.new.rest.now ≡ [] }
     {
@@ -80,7 +80,7 @@ pub fn cut(text: &str) -> (&str, &str)
     (item, rest.trim_start())
 }
 
-// A decimal number, digits alone.
+// A decimal number, digits alone. The library's `parse` takes a plus before them, which is no digit.
 pub fn number(text: &str) -> Option<usize>
     ensures { Writes text.now result }
 {

@@ -96,8 +96,8 @@ impl<'a> TryFrom<&'a str> for Call<'a> {
     fn try_from(line: &'a str) -> Result<Call<'a>, NoCall> {
         let mut items = Items::new(line);
         let call = match items.item() {
-            "book" => Call::Book(items.rest()),
-            "sheet" => Call::Sheet(items.number()?, items.rest()),
+            "book" => Call::Book(items.take_rest()),
+            "sheet" => Call::Sheet(items.number()?, items.take_rest()),
             "read" => Call::AskBook(BookQuestion::Read),
             "parts" => Call::AskBook(BookQuestion::Parts),
             "below" => Call::AskBook(BookQuestion::Below(
@@ -120,6 +120,7 @@ impl<'a> TryFrom<&'a str> for Call<'a> {
                 action: Action::Ask(items.number()?, items.number()?),
                 nodes: items.nodes()?,
             }),
+            // the nodes stand before the words on the line, and after them in the call
             "show" => {
                 let (a, b, nodes) = (items.number()?, items.number()?, items.nodes()?);
                 Call::Register(RegisterCall {

@@ -46,7 +46,8 @@ pub fn class_line(entry: u8, class: u8) -> [u8; 12]
 }
 
 // The line of an entry whose filing was refused with the number.
-// Stays: a listing shows the number of a refusal alone, which is what a report has.
+// Stays: the rules of the listing name the bytes of a line by the number of a refusal, whatever byte it is, and a report has
+// two more parts, which no byte of the line shows.
 #[tactic(auto, unfolding(crate::specs::Listings::line_of_denied_entry, crate::specs::Listings::both_digits))]
 pub fn denied_line(entry: u8, number: u8) -> [u8; 13]
     ensures { result ≡ line_of_denied_entry entry number }
@@ -58,6 +59,7 @@ pub fn denied_line(entry: u8, number: u8) -> [u8; 13]
 }
 
 // The line of a book that is refused with the number.
+// Stays: the rules name its bytes by the number, as they do for an entry.
 #[tactic(auto, unfolding(crate::specs::Listings::line_of_book, crate::specs::Listings::both_digits))]
 pub fn book_line(number: u8) -> [u8; 8]
     ensures { result ≡ line_of_book number }

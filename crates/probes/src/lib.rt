@@ -23,7 +23,7 @@ use tableau::Label;
 const NODES: usize = 4096;
 
 // The plan of the book in the bytes, under its closure rows.
-// Stays: the tests in `examples` have the like, with an error that tells where it stopped. This crate is a static library, on
+// Stays: the tests in `examples` have the like, with the failure of a test for an error. This crate is a static library, on
 // which no other builds, and the two lines are not worth a public function of `plan`.
 fn plan_of(bytes: &[u8]) -> Option<Plan> {
     let book = read(bytes).ok()?;
@@ -102,6 +102,9 @@ pub fn has_world_over(
     answer
 }
 
+// The calls of a program in C.
+// Stays: such a program gives and gets numbers: a seed as two words, an answer as a number, and a number where there is none.
+
 // The number of working entries, 0 where the book has no plan.
 #[unsafe(no_mangle)]
 pub extern "C" fn probe_width(book: &[u8]) -> usize {
@@ -134,7 +137,6 @@ pub extern "C" fn probe_seeds(book: &[u8], plus: u64, minus: u64, times: u64) ->
     )
 }
 
-// Stays: a program in C gives and gets numbers, here and below: a seed as two words, an answer as a number.
 // Searches from a seed in so many nodes, so many times: 0 failed, 1 stands, 2 no room, 3 no search was made.
 #[unsafe(no_mangle)]
 pub extern "C" fn probe_search(

@@ -1,9 +1,12 @@
 // What a script asks of a book and of the world on a sheet.
 #![tactic(auto)]
 
-ghost use Rattle.std.specs.Prelude.{◌≡◌, ◌≢◌, Some, codes, MatchResult};
+ghost use Rattle.std.specs.Prelude.{◌≡◌, ◌≢◌, ℕ, ◌&&◌, nat_lt, length, Some, codes, MatchResult};
 ghost use Rattle.denial.specs.Denials.{answer, and_then, record_report, denial_report};
 ghost use Rattle.book.specs.Views.{view};
+ghost use Rattle.roles.specs.Told.{marked};
+ghost use Rattle.roles.specs.Closure.{closure};
+ghost use Rattle.questions.specs.Bases.{count_in, under_in, passing_in, lawful_in};
 ghost use Rattle.questions.specs.Questions.{name_of_base, name_of_source, answer_of, answer_over, answer_from, below_of, transitive_of, individuals_of, judged_of, Kept};
 ghost use Rattle.questions.specs.declared.Base.{Base};
 ghost use Rattle.questions.specs.declared.Source.{Source};
@@ -30,7 +33,62 @@ pub enum Base {
 #[derive(Clone, Copy, PartialEq, Eq, Debug)]
 pub struct Source {
     pub base: Base,
+    // Stays: a name has the ending or not, whatever its base; a type of two cases would say no more than yes and no.
     pub universal: bool,
+}
+
+// A hierarchy of a book, which the code can ask: the one that a base names.
+#[derive(Clone, Copy)]
+pub enum Based<'a> {
+    Closed(Rows),
+    Told(Told<'a>),
+}
+
+impl Base {
+    // The hierarchy of the book: closed now, or followed at each question.
+    pub fn of<'a>(self, book: &'a Book) -> Based<'a>
+        ensures count { count_in result ≡ length (view book.now).roles }
+        ensures relation { (r s : ℕ) → under_in result r s ≡ closure (length (view book.now).roles) (view book.now).pairs r s }
+        ensures transitive { (r : ℕ) → (nat_lt r (count_in result) && passing_in result r) ≡ (nat_lt r (length (view book.now).roles) && marked (view book.now).roles r) }
+    {
+        match self {
+            Base::Closed => Based::Closed(Rows::closed(book)),
+            Base::Told => Based::Told(Told::new(book)),
+        }
+    }
+}
+
+impl<'a> Order for Based<'a> {
+    ghost size = { count_in };
+
+    ghost under = { under_in };
+
+    ghost lawful = { lawful_in };
+
+    fn count(&self) -> usize {
+        match self {
+            Based::Closed(rows) => rows.count(),
+            Based::Told(told) => told.count(),
+        }
+    }
+
+    fn below(&self, r: usize, s: usize) -> bool {
+        match self {
+            Based::Closed(rows) => rows.below(r, s),
+            Based::Told(told) => told.below(r, s),
+        }
+    }
+}
+
+impl<'a> Hierarchy for Based<'a> {
+    ghost passing = { passing_in };
+
+    fn transitive(&self, r: usize) -> bool {
+        match self {
+            Based::Closed(rows) => rows.transitive(r),
+            Based::Told(told) => told.transitive(r),
+        }
+    }
 }
 
 // A text that names no hierarchy.
@@ -79,6 +137,7 @@ impl FromStr for Source {
 }
 
 // A question of roles, which any hierarchy answers.
+// Stays: a closure takes one type of hierarchy, and a question is put to more: to a book's, and to a universal role over it.
 #[derive(Clone, Copy)]
 enum Question {
     // whether the first role is below the second
@@ -110,15 +169,12 @@ impl Question {
     fn put(self, book: &Book, source: Source) -> Result<bool, Denial>
         ensures { answer (λ b. b) denial_report result ≡ answer_from source self (view book.now) }
     {
-        match source.base {
-            Base::Closed => self.put_over(&Rows::closed(book), source.universal),
-            Base::Told => self.put_over(&Told::new(book), source.universal),
-        }
+        self.put_over(&source.base.of(book), source.universal)
     }
 }
 
 // Whether the role r is below s.
-// Stays: a book goes with each question, as the hierarchy or the words do that are asked about: a script changes each by itself.
+// Stays: a book goes with a source here and with the words of a sheet below, and each question has another mix of them.
 pub fn below(book: &Book, source: Source, r: usize, s: usize) -> Result<bool, Denial>
     ensures { answer (λ b. b) denial_report result ≡ below_of source (view book.now) r s }
 {
@@ -133,13 +189,14 @@ pub fn transitive(book: &Book, source: Source, r: usize) -> Result<bool, Denial>
 }
 
 // How many individuals are on the sheet, for what reading the book came to.
+// Stays: a book that was not read is refused here, so that this refusal is part of what is promised of the answer.
 pub fn drawn(book: Result<Book, RecordDenial>, words: &[u64]) -> Result<usize, Denial>
     ensures { answer (λ m. m) denial_report result ≡ and_then (answer view record_report book) (λ s. individuals_of s words.now) }
 {
-    individuals(words, &book?)
+    individuals(&book?, words)
 }
 
-fn individuals(words: &[u64], book: &Book) -> Result<usize, Denial>
+fn individuals(book: &Book, words: &[u64]) -> Result<usize, Denial>
     ensures { answer (λ m. m) denial_report result ≡ individuals_of (view book.now) words.now }
 {
     Ok(Sheet::new(words, book)?.individuals())
@@ -158,8 +215,5 @@ pub fn kept(book: &Book, words: &[u64], base: Base) -> Result<bool, Denial>
     ensures { Kept (view book.now) words.now result }
 {
     let world = Sheet::new(words, book)?;
-    match base {
-        Base::Closed => sheet::keeps(&world, &Rows::closed(book), book),
-        Base::Told => sheet::keeps(&world, &Told::new(book), book),
-    }
+    sheet::keeps(&world, &base.of(book), book)
 }

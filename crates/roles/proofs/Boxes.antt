@@ -14,12 +14,15 @@ twice true b = refl
 twice false b = refl
 
 -- equal field by field
+pub box_alike : (n m : ℕ) (under u : ℕ → ℕ → Bool) (passing p : ℕ → Bool) → n ≡ m → ((r s : ℕ) → under r s ≡ u r s)
+    → ((r : ℕ) → (ltb r n && passing r) ≡ (ltb r m && p r)) → role_box n under passing ≡ role_box m u p
+box_alike n m under u passing p count relation marks = λ i. record { count = count i; below = λ r s. relation r s i; transitive = λ r. marks r i }
+
 pub rows_same : (x : Rows) (n : ℕ) (under : ℕ → ℕ → Bool) (passing : ℕ → Bool) → x.count ≡ n → ((r s : ℕ) → related x.rows r s ≡ under r s)
     → ((r : ℕ) → has x.marks r ≡ (ltb r n && passing r)) → role_box x.count (related x.rows) (has x.marks) ≡ role_box n under passing
 rows_same x n under passing count relation transitive =
-    let marks : (r : ℕ) → (ltb r x.count && has x.marks r) ≡ (ltb r n && passing r)
-    = λ r. ap (λ m. ltb r m && has x.marks r) count ∙ ap (λ b. ltb r n && b) (transitive r) ∙ twice (ltb r n) (passing r) in
-    λ i. record { count = count i; below = λ r s. relation r s i; transitive = λ r. marks r i }
+    box_alike x.count n (related x.rows) under (has x.marks) passing count relation
+    (λ r. ap (λ m. ltb r m && has x.marks r) count ∙ ap (λ b. ltb r n && b) (transitive r) ∙ twice (ltb r n) (passing r))
 
 -- the closure rows of a book are its own hierarchy
 pub closed_same : (s : Sections) (x : Rows) → x.count ≡ length s.roles

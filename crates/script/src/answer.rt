@@ -1,10 +1,12 @@
 // The lines of the answers that list something.
 use book::parts::{Part, Parts};
 use register::{Shown, Side};
+use sheet::sheet::ROWS;
 use std::alloc::{AllocError, Global};
 use std::fmt::Write;
 
 // A line for each part of a book that is read: its kind, its place, its length and its bytes.
+// Stays: the words for the kinds are those of this answer, and nothing else writes them.
 pub fn parts(heap: Global, bytes: &[u8]) -> Result<String, AllocError> {
     let mut out = String::new(heap);
     for part in Parts::new(bytes) {
@@ -30,6 +32,7 @@ pub fn parts(heap: Global, bytes: &[u8]) -> Result<String, AllocError> {
 }
 
 // "shown", how many individuals, the side, and those of the words needed that are not 0, each after its place.
+// Stays: a side has no number of its own; that it is 1 or 2 is a matter of this answer.
 pub fn shown(
     heap: Global,
     shown: Shown,
@@ -42,7 +45,7 @@ pub fn shown(
         Side::Second => 2,
     };
     let mut line = format!(in heap; "shown {m} {side}")?;
-    let needed = roles.saturating_mul(m).saturating_add(65);
+    let needed = roles.saturating_mul(m).saturating_add(ROWS);
     for (place, word) in words.iter().enumerate().take(needed) {
         if *word != 0 {
             write!(line, " {place}:{word:x}")?;

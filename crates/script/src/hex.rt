@@ -4,10 +4,11 @@ ghost use Rattle.script.specs.Digits.{digit_of};
 
 use crate::failure::Failure;
 use grammar::number;
+use sheet::sheet::ROWS;
 use std::alloc::Global;
 
 // No sheet needs more words than this: the count, 64 names, and 64 rows for each of 64 roles.
-pub const WORDS: usize = 4161;
+pub const WORDS: usize = ROWS + 64 * 64;
 
 // The bytes that a text gives in hex, two digits each.
 pub fn bytes_of(heap: Global, hex: &str) -> Result<Vec<u8>, Failure> {
@@ -54,7 +55,8 @@ fn word_of(text: &str) -> Option<u64> {
     u64::from_str_radix(text, 16).ok()
 }
 
-// The number that a hex digit stands for. Stays: the library's `to_digit` takes capital letters too, which are no digits here.
+// The number that a hex digit stands for.
+// Stays: the library's `to_digit` takes capital letters too, which are no digits here.
 fn digit(b: u8) -> Option<u8>
     ensures value { result ≡ digit_of b }
     ensures small { IfSome result (λ d. d < 16) }

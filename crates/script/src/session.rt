@@ -11,8 +11,6 @@ use lines::{denied, yes_or_no};
 use listing::listing;
 use questions::Base;
 use register::Register;
-use roles::rows::Rows;
-use roles::told::Told;
 use search::Node;
 use std::alloc::{AllocError, Global};
 
@@ -133,7 +131,7 @@ impl Session {
     // Opens a register afresh.
     fn open(&mut self, base: Base) -> Result<String, Failure> {
         self.register = None;
-        let register = opened(self.book, base)?;
+        let register = opened(&self.book?, base)?;
         let w = register.width();
         self.register = Some(register);
         Ok(format!(in self.heap; "open {w}\n")?)
@@ -142,10 +140,10 @@ impl Session {
     // The answer to a call on the register; where none is open, one is opened with closure rows first.
     fn call(&mut self, call: RegisterCall) -> Result<String, Failure> {
         let heap = self.heap;
-        let book = self.book;
+        let book = self.book?;
         let register = self
             .register
-            .get_or_try_insert_with(|| opened(book, Base::Closed))?;
+            .get_or_try_insert_with(|| opened(&book, Base::Closed))?;
         let mut nodes = vec![in heap; Node::BLANK; call.nodes]?;
         let answer = match call.action {
             Action::File(entry) => {
@@ -177,11 +175,7 @@ impl Session {
     }
 }
 
-// A register on what reading the book came to.
-fn opened(book: Result<Book, RecordDenial>, base: Base) -> Result<Register, Denial> {
-    let book = book?;
-    match base {
-        Base::Closed => Register::open(&book, &Rows::closed(&book)),
-        Base::Told => Register::open(&book, &Told::new(&book)),
-    }
+// A register on the book.
+fn opened(book: &Book, base: Base) -> Result<Register, Denial> {
+    Register::open(book, &base.of(book))
 }

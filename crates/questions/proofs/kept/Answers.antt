@@ -1,17 +1,19 @@
+use Rattle.std.proofs.Common.{length}
 use Rattle.meaning.specs.Orders.{role_box}
-use Rattle.words.specs.Sets.{has}
 use Rattle.book.specs.Views.{view}
-use Rattle.roles.specs.Rows.{related}
-use Rattle.roles.proofs.Boxes.{closed_same}
+use Rattle.roles.specs.Told.{marked}
+use Rattle.roles.specs.Closure.{closure}
+use Rattle.roles.proofs.Boxes.{box_alike}
+use Rattle.questions.specs.Bases.{count_in, under_in, passing_in}
 use Rattle.questions.proofs.Keeping.{kept_under}
 use Rattle.questions.proofs.kept.Goals as goal
 
-pub returns-in-Closed : goal.returns-in-Closed
-returns-in-Closed c =
+pub returns : goal.returns
+returns c =
     let s = view c.args.book.now in
-    let x = c.closed.result in
+    let x = c.of.result in
     let w = c.in_ok-world.world in
-    kept_under (role_box x.count (related x.rows) (has x.marks)) s c.args.words.now w.words.now w.roles c.keeps.result
+    kept_under (role_box (count_in x) (under_in x) (passing_in x)) s c.args.words.now w.words.now w.roles c.keeps.result
     c.in_ok-world.ensures.value c.in_ok-world.ensures.roles c.in_ok-world.ensures.world
-    (closed_same s x c.closed.ensures.count c.closed.ensures.relation c.closed.ensures.transitive)
+    (box_alike (count_in x) (length s.roles) (under_in x) (closure (length s.roles) s.pairs) (passing_in x) (marked s.roles) c.of.ensures.count c.of.ensures.relation c.of.ensures.transitive)
     c.keeps.ensures
