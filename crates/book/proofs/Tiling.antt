@@ -65,9 +65,5 @@ module _ (bytes : List ℕ) where
   unfolding parts_of
   parts_of_refused r e = rw (← e)
 
-  pub unlaid : (r : Report) → denied r ≡ laying bytes → denied r ≡ reading bytes
-  unfolding reading
-  unlaid r e = rw (← e)
-
   pub tiles : Tiles bytes
   tiles s e = subst (λ ps. EndToEnd 0 ps bytes) (sym (parts_of_read s e)) (tiled (layout_of bytes) (layout_of_read s e))

@@ -48,7 +48,8 @@ pub struct Book {
     ghost good: { faultless (take counts.roles roles) (take (2 * counts.pairs) pairs) (take (4 * counts.entries) concepts) (take (2 * counts.rules) rules) ≡ true },
 }
 
-// The four sections of a book, lent, with the layout that says where they are.
+// The four sections of a book, lent, with the layout that says where they are. It is not beside its methods in `read`,
+// since a struct with a fact needs all that its file cites, and what `read` cites speaks of this struct.
 #[derive(Clone, Copy)]
 struct Lent<'a> {
     layout: Layout,

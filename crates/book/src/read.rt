@@ -1,9 +1,10 @@
 // Reading: the layout by the trailer, then every record of every section.
 ghost use Rattle.std.specs.Prelude.{◌≡◌, ◌+◌, ◌/◌, ◌<◌, ◌≤◌, true, length, take, IfSome, IfOk, OnOk};
-ghost use Rattle.denial.specs.Denials.{answer, record_report};
+ghost use Rattle.denial.specs.Denials.{answer, granted, record_report};
 ghost use Rattle.meaning.specs.Books.{Sound};
 ghost use Rattle.book.specs.Sections.{says};
 ghost use Rattle.book.specs.Records.{named, fitting, lowest_bad_role, lowest_unfit, lowest_bad_concept, faultless};
+ghost use Rattle.book.specs.Layouts.{laying, Laid};
 ghost use Rattle.book.specs.Reading.{cut, checking, reading};
 ghost use Rattle.book.specs.Views.{view, held};
 
@@ -15,10 +16,21 @@ use denial::RecordDenial;
 const NAMES: u8 = 64;
 
 // The book in the bytes, or the first refusal. What a book that was read says is sound.
-#[tactic(auto, using(crate::proofs::Soundness::book_sound), unfolding(crate::specs::Reading::reading))]
+#[tactic(auto, using(crate::proofs::Soundness::book_sound))]
 pub fn read(bytes: &[u8]) -> Result<Book, RecordDenial>
     ensures value { answer view record_report result ≡ reading bytes.now }
     ensures sound { IfOk result (λ b. Sound (says (view b))) }
+{
+    Ok(sections(bytes)?.stored())
+}
+
+// The sections of the book in the bytes, each record good, or the first refusal.
+#[tactic(auto, unfolding(crate::specs::Reading::reading))]
+pub(crate) fn sections(bytes: &[u8]) -> Result<Lent<'_>, RecordDenial>
+    ensures value { answer held record_report result ≡ reading bytes.now }
+    ensures granted { IfOk result (λ x. granted x.layout ≡ laying bytes.now) }
+    ensures laid { IfOk result (λ x. Laid (length bytes.now) x.layout) }
+    ensures good { IfOk result (λ x. faultless x.roles.now x.pairs.now x.concepts.now x.rules.now ≡ true) }
 {
     let layout = read_layout(bytes)?;
     let lent = Lent {
@@ -29,7 +41,7 @@ pub fn read(bytes: &[u8]) -> Result<Book, RecordDenial>
         rules: part(bytes, layout.rules.place, 2 * layout.rules.count),
     };
     lent.check()?;
-    Ok(lent.stored())
+    Ok(lent)
 }
 
 // So many bytes from a place on.

@@ -92,7 +92,7 @@ pub fn read_layout(bytes: &[u8]) -> Result<Layout, TrailerDenial>
 }
 
 // The bytes of a book that has a trailer, and where the trailer starts. Its methods take a section by its number.
-// Stays: a refusal tells where the field of a section is, which is counted by the number of the section.
+// Stays: a section is a number below 4 here, since a refusal of a count or a place tells where the j-th field is.
 #[derive(Clone, Copy)]
 struct Trailer<'a> {
     bytes: &'a [u8],

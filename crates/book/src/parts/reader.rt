@@ -5,8 +5,8 @@ ghost use Rattle.book.specs.Coming.{coming_of, Yields};
 ghost use Rattle.std.specs.Iterator.{at_most};
 
 use crate::parts::{Part, Parts, Stage};
-use crate::read::{part, read};
-use crate::trailer::{Layout, TRAILER, read_layout};
+use crate::read::{part, sections};
+use crate::trailer::{Layout, TRAILER};
 
 impl<'a> Parts<'a> {
     // The parts of a book; none where reading refuses it. Laid end to end they are the book.
@@ -14,7 +14,8 @@ impl<'a> Parts<'a> {
         ensures parts { coming_of result ≡ parts_of bytes.now }
         ensures tiles { Tiles bytes.now }
     {
-        let (Ok(_), Ok(layout)) = (read(bytes), read_layout(bytes)) else {
+        let Ok(lent) = sections(bytes) else {
+            // Zeros in which an empty layout has its place, since every reader has one.
             return Parts {
                 bytes: &[0; TRAILER],
                 layout: Layout::default(),
@@ -24,7 +25,7 @@ impl<'a> Parts<'a> {
         };
         Parts {
             bytes,
-            layout,
+            layout: lent.layout,
             stage: Stage::AtRoles,
             at: 0,
         }

@@ -1,24 +1,20 @@
 use Rattle.std.proofs.Common.{sym, ap, ◌∙◌}
 use Rattle.book.specs.Pieces.{pieces_from_roles}
 use Rattle.book.proofs.Layouting.{laid_from}
-use Rattle.book.proofs.Tiling.{tiles, parts_of_read, parts_of_refused, unlaid}
-use Rattle.book.proofs.parts.Parts.new.Goals.{in_default-via-in-Ok+in_default, in_default-via-in_default}
+use Rattle.book.proofs.Tiling.{tiles, parts_of_read, parts_of_refused}
 use Rattle.book.proofs.parts.Parts.new.Goals as goal
 
 pub returns-in_default : goal.returns-in_default
 returns-in_default c =
     let bs = c.args.bytes.now in
-    elim c.in_default.branch [
-      | in_default-via-in-Ok+in_default w ↦ record { parts = parts_of_refused bs _ (unlaid bs _ w.in_default.ensures'.value); tiles = tiles bs }
-      | in_default-via-in_default w ↦ record { parts = parts_of_refused bs _ w.in_default.ensures.value; tiles = tiles bs }
-    ]
+    record { parts = parts_of_refused bs _ c.in_default.ensures.value; tiles = tiles bs }
 
 pub returns : goal.returns
 returns c =
     let bs = c.args.bytes.now in
     record {
       parts =
-          ap (λ l. pieces_from_roles bs l 0) (laid_from bs c.in-Ok-Ok.layout (sym c.in-Ok-Ok.ensures'.value)).0
-          ∙ sym (parts_of_read bs _ (sym c.in-Ok-Ok.ensures.value));
+          ap (λ l. pieces_from_roles bs l 0) (laid_from bs c.in-Ok.lent.layout (sym c.in-Ok.ensures.granted)).0
+          ∙ sym (parts_of_read bs _ (sym c.in-Ok.ensures.value));
       tiles = tiles bs;
     }
