@@ -77,7 +77,9 @@ impl<'a> World for Found<'a> {
     }
 
     fn bears(&self, x: usize, n: usize) -> bool {
-        x < self.individuals() && n < NAMES && !words::disjoint(self.nodes[x].label.plus, self.names[n])
+        x < self.individuals()
+            && n < NAMES
+            && !words::disjoint(self.nodes[x].label.plus, self.names[n])
     }
 
     fn joins(&self, r: usize, x: usize, y: usize) -> bool {

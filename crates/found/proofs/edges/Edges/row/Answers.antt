@@ -1,4 +1,4 @@
-use Rattle.std.proofs.Common.{arith, rules}
+use Rattle.std.proofs.Common.{rules}
 use Rattle.found.proofs.Leading.{targets_of}
 use Rattle.found.proofs.edges.Edges.row.Goals as goal
 
