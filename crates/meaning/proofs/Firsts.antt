@@ -47,11 +47,3 @@ Found n p r = MatchOption r ((k : ℕ) → 0 ≤ k → k < n → p k ≡ false) 
 pub first_found : (n : ℕ) (p : ℕ → Bool) (r : Option ℕ) → Found n p r → r ≡ first n p
 first_found n p None f = sym (first_none n p (λ k l. f k (omega arith) l))
 first_found n p (Some i) f = sym (first_some n i p f.1 (λ k l. f.3 k (omega arith) l) f.2)
-
--- tests that answer alike below a bound have one first number
-pub first_alike : (n : ℕ) (p q : ℕ → Bool) → ((k : ℕ) → k < n → p k ≡ q k) → first n p ≡ first n q
-unfolding first
-first_alike zero p q s = refl
-first_alike (suc n) p q s =
-    ap (λ o. or_else o (cond (p n) (Some n) None)) (first_alike n p q (λ k l. s k (omega arith)))
-    ∙ ap (λ b. or_else (first n q) (cond b (Some n) None)) (s n (omega arith))
