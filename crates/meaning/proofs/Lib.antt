@@ -4,3 +4,4 @@ pub mod Ranges
 pub mod Meanings
 pub mod Chains
 pub mod Agreement
+pub mod Implying

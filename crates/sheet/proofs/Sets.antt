@@ -6,6 +6,7 @@ use Rattle.words.specs.Sets.{has, set_of, Within, Disjoint}
 use Rattle.words.proofs.Words.{has_none, has_above, comprehends, set_is}
 use Rattle.meaning.specs.Bounded.{any, all}
 use Rattle.meaning.proofs.Tests.{all_from, all_at}
+use Rattle.meaning.proofs.Implying.{implied, implies}
 
 pub set_fits : (n : ℕ) (p : ℕ → Bool) → set_of n p < 2 ^ n
 set_fits n p = (comprehends n p).fits
@@ -37,18 +38,10 @@ any_not_all (suc n) p q =
     morgan true false c = refl
     morgan false b c = refl
 
-either : (a b : Bool) → (a ≡ true → b ≡ true) → (not a || b) ≡ true
-either true b f = f refl
-either false b f = refl
-
 neither : (a b : Bool) → (a && b) ≡ false → (not a || not b) ≡ true
 neither true true e = sym e
 neither true false e = refl
 neither false b e = refl
-
-from_either : (a b : Bool) → (not a || b) ≡ true → a ≡ true → b ≡ true
-from_either true b e h = e
-from_either false b e h = absurd (let z : ◌≡◌ {A = ℕ} 0 1 = cc in omega arith)
 
 from_neither : (a b : Bool) → (not a || not b) ≡ true → (a && b) ≡ false
 from_neither true true e = sym e
@@ -60,10 +53,10 @@ module _ (m : ℕ) (p : ℕ → Bool) (part : ℕ) where
   within_all : Decides (all m (λ y. not (p y) || has part y)) (Within (set_of m p) part)
   within_all = (
     (λ e j h. ⊎_elim
-        (λ l. from_either (p j) (has part j) (all_at m (λ y. not (p y) || has part y) e j l) (sym (has_set m j p l) ∙ h))
+        (λ l. implied (p j) (has part j) (all_at m (λ y. not (p y) || has part y) e j l) (sym (has_set m j p l) ∙ h))
         (λ g. absurd (both_ways (has (set_of m p) j) (past_set m j p g) h))
         (cases_lt j m)),
-    (λ w. all_from m (λ y. not (p y) || has part y) (λ k l. either (p k) (has part k) (λ h. w k (has_set m k p l ∙ h)))),
+    (λ w. all_from m (λ y. not (p y) || has part y) (λ k l. implies (p k) (has part k) (λ h. w k (has_set m k p l ∙ h)))),
   )
 
   disjoint_all : Decides (all m (λ y. not (p y) || not (has part y))) (Disjoint (set_of m p) part)

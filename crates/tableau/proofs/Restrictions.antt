@@ -7,8 +7,9 @@ use Rattle.meaning.specs.declared.Concept.TheVariants.{Restriction}
 use Rattle.meaning.specs.declared.Quantifier.{Quantifier}
 use Rattle.meaning.specs.declared.Quantifier.TheVariants.{Exists, Forall, NoneOf}
 use Rattle.meaning.proofs.Tests.{any_from, any_some, any_none, none_any, all_from, all_at}
+use Rattle.meaning.proofs.Implying.{implied, implies}
 use Rattle.tableau.specs.Seeds.{obliges, sign_of}
-use Rattle.tableau.proofs.Tests.{implied, implies, excluded, excludes}
+use Rattle.tableau.proofs.Tests.{excluded, excludes}
 
 -- where `all` fails, the test fails somewhere
 all_fails : (n : ℕ) (p : ℕ → Bool) → all n p ≡ false → (k : ℕ) × (k < n) × (p k ≡ false)

@@ -6,6 +6,7 @@ use Rattle.meaning.specs.Books.{Book, Keeps}
 use Rattle.meaning.specs.Orders.{RoleBox}
 use Rattle.meaning.specs.Universal.{with_universal}
 use Rattle.meaning.specs.declared.Quantifier.TheVariants.{Forall}
+use Rattle.meaning.proofs.Implying.{implied}
 use Rattle.tableau.specs.declared.Label.{Label}
 use Rattle.tableau.specs.declared.Entry.TheVariants.{Inclusion}
 use Rattle.tableau.specs.Labels.{empty, in_label}
@@ -16,7 +17,6 @@ use Rattle.tableau.specs.Promises.{Opens, Satisfies, Seed, found_world, Realised
 use Rattle.tableau.specs.Entries.{means, Meaning, holds_entry}
 use Rattle.tableau.proofs.Labelling.{Holds}
 use Rattle.tableau.proofs.Meanings.{entries_mean}
-use Rattle.tableau.proofs.Tests.{implied}
 use Rattle.tableau.proofs.Obligations.{obliging_at}
 use Rattle.tableau.proofs.Standing.{Saturates}
 use Rattle.tableau.proofs.Tables.{universal_ordered, universal_transitive, universal_top, universal_below, below_top, rule_entry_at, entry_book, entry_everywhere, rooted_book, rooted_everywhere, rooted_holds}

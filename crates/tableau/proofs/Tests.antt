@@ -1,19 +1,10 @@
 -- Small facts of tests, and of equations that cannot be.
-use Rattle.std.proofs.Common.{◌≡◌, ℕ, Bool, true, false, cond, not, ◌&&◌, ◌||◌, sym, refl, ap, subst, arith}
+use Rattle.std.proofs.Common.{◌≡◌, ℕ, Bool, true, false, cond, not, ◌&&◌, sym, refl, ap, subst, arith}
 use Rattle.std.proofs.lemmas.Bool.{both_ways, cond-true, cond-false}
 
 -- anything follows where two constructors are said to be equal: `never cc`
 pub never : {A : Type 0} → ◌≡◌ {A = ℕ} 0 1 → A
 never e = absurd (omega arith)
-
--- "if x then y", used and made
-pub implied : (x y : Bool) → (not x || y) ≡ true → x ≡ true → y ≡ true
-implied true y e h = e
-implied false y e h = absurd (both_ways false refl h)
-
-pub implies : (x y : Bool) → (x ≡ true → y ≡ true) → (not x || y) ≡ true
-implies true y f = f refl
-implies false y f = refl
 
 -- "not both", used and made
 pub excluded : (x y : Bool) → (x && y) ≡ false → x ≡ true → y ≡ false

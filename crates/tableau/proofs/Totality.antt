@@ -7,12 +7,12 @@ use Rattle.meaning.specs.Books.{Book, Keeps}
 use Rattle.meaning.specs.Orders.{RoleBox}
 use Rattle.meaning.specs.Universal.{universal_cases, with_universal}
 use Rattle.meaning.proofs.Tests.{all_from}
+use Rattle.meaning.proofs.Implying.{implies}
 use Rattle.meaning.proofs.Meanings.{denotes_same}
 use Rattle.tableau.specs.declared.Label.{Label}
 use Rattle.tableau.specs.Working.{plain_of, book_entry, everywhere_entry, entry_of, rooted}
 use Rattle.tableau.specs.Promises.{Opens, Satisfies, Seed}
 use Rattle.tableau.specs.Entries.{means, Meaning, deep_entry, holds_entry, Follows}
-use Rattle.tableau.proofs.Tests.{implies}
 use Rattle.tableau.proofs.Meanings.{entries_mean}
 use Rattle.tableau.proofs.Tables.{entry_concept, rule_entry_at, entry_book, entry_everywhere, transitive_cases, rooted_cases}
 use Rattle.tableau.proofs.Agreeing.{holds_agree}
