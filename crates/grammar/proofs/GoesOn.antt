@@ -1,5 +1,6 @@
 -- Lines that go on after a call.
-use Rattle.std.proofs.Common.{rules, ◌≡◌, ◌≢◌, ℕ, List, [], codes}
+use Rattle.std.proofs.Common.{◌≡◌, ◌≢◌, ℕ, List, [], codes, cond, sym, ap, ◌∙◌}
+use Rattle.std.specs.Str.{bytes_eq}
 use Rattle.grammar.specs.Items.{first_item, other_items}
 use Rattle.grammar.specs.Spelling.{Spells, SpellsBook, SpellsWorld, SpellsAction}
 use Rattle.grammar.specs.declared.Call.{Call}
@@ -11,83 +12,50 @@ use Rattle.grammar.specs.declared.WorldQuestion.TheVariants.{Judge, Keeps}
 use Rattle.grammar.specs.declared.Action.{Action}
 use Rattle.grammar.specs.declared.Action.TheVariants.{File, Ask, Show}
 
-module _ (text : List ℕ) (named : first_item text ≡ codes "show") (more : other_items (other_items (other_items (other_items (other_items text)))) ≢ []) where
-  no_book : (q : BookQuestion) → SpellsBook text q → ⊥
-  no_book Read s = search rules
-  no_book Parts s = search rules
-  no_book (Below h r t) s = search rules
-  no_book (Transitive h r) s = search rules
+-- what is left of a text after the items of a call that starts with the word: "show" and four, "c" and two, or "classes"
+abbrev left : List ℕ → List ℕ → List ℕ
+left word text =
+    cond (bytes_eq word (codes "show")) (other_items (other_items (other_items (other_items (other_items text)))))
+    (cond (bytes_eq word (codes "c")) (other_items (other_items (other_items text)))
+    (cond (bytes_eq word (codes "classes")) (other_items text) []))
 
-  no_world : (q : WorldQuestion) → SpellsWorld text q → ⊥
-  no_world (Judge entry) s = search rules
-  no_world (Keeps base) s = search rules
+starts : (text word : List ℕ) → first_item text ≡ word → left (first_item text) text ≡ left word text
+starts text word e = ap (λ w. left w text) e
 
-  no_action : (a : Action) (nodes : ℕ) → SpellsAction text a nodes → ⊥
-  no_action (File entry) nodes s = search rules
-  no_action (Ask a b) nodes s = search rules
-  no_action (Show a b words) nodes s = more s.1.1.1.1.1
+book_ends : (text : List ℕ) (q : BookQuestion) → SpellsBook text q → left (first_item text) text ≡ []
+book_ends text Read s = starts text (codes "read") s.0
+book_ends text Parts s = starts text (codes "parts") s.0
+book_ends text (Below h r t) s = starts text (codes "below") s.0
+book_ends text (Transitive h r) s = starts text (codes "transitive") s.0
 
-  -- no call is spelled by a text of more than five items that starts with "show"
-  pub shows_too_much : (call : Call) → Spells text call → ⊥
-  shows_too_much (Book hex) s = search rules
-  shows_too_much (Sheet count words) s = search rules
-  shows_too_much (AskBook q) s = no_book q s
-  shows_too_much (AskWorld q) s = no_world q s
-  shows_too_much (Open base) s = search rules
-  shows_too_much (Register call) s = no_action call.action call.nodes s.0
-  shows_too_much (Relation first second) s = search rules
-  shows_too_much Classes s = search rules
+world_ends : (text : List ℕ) (q : WorldQuestion) → SpellsWorld text q → left (first_item text) text ≡ []
+world_ends text (Judge entry) s = starts text (codes "judge") s.0
+world_ends text (Keeps base) s = starts text (codes "keeps") s.0
 
-module _ (text : List ℕ) (named : first_item text ≡ codes "c") (more : other_items (other_items (other_items text)) ≢ []) where
-  none_of_book : (q : BookQuestion) → SpellsBook text q → ⊥
-  none_of_book Read s = search rules
-  none_of_book Parts s = search rules
-  none_of_book (Below h r t) s = search rules
-  none_of_book (Transitive h r) s = search rules
+action_ends : (text : List ℕ) (a : Action) (nodes : ℕ) → SpellsAction text a nodes → left (first_item text) text ≡ []
+action_ends text (File entry) nodes s = starts text (codes "file") s.0
+action_ends text (Ask a b) nodes s = starts text (codes "ask") s.0
+action_ends text (Show a b words) nodes s = starts text (codes "show") s.0 ∙ s.1.1.1.1.1
 
-  none_of_world : (q : WorldQuestion) → SpellsWorld text q → ⊥
-  none_of_world (Judge entry) s = search rules
-  none_of_world (Keeps base) s = search rules
+-- after the items of a call that a text spells nothing is left
+ends : (text : List ℕ) (call : Call) → Spells text call → left (first_item text) text ≡ []
+ends text (Book hex) s = starts text (codes "book") s.0
+ends text (Sheet count words) s = starts text (codes "sheet") s.0
+ends text (AskBook q) s = book_ends text q s
+ends text (AskWorld q) s = world_ends text q s
+ends text (Open base) s = starts text (codes "open") s.0
+ends text (Register call) s = action_ends text call.action call.nodes s.0
+ends text (Relation first second) s = starts text (codes "c") s.0 ∙ s.1.1.1
+ends text Classes s = starts text (codes "classes") s.0 ∙ s.1
 
-  none_of_register : (a : Action) (nodes : ℕ) → SpellsAction text a nodes → ⊥
-  none_of_register (File entry) nodes s = search rules
-  none_of_register (Ask a b) nodes s = search rules
-  none_of_register (Show a b words) nodes s = search rules
+-- no call is spelled by a text of more than five items that starts with "show"
+pub shows_too_much : (text : List ℕ) → first_item text ≡ codes "show" → other_items (other_items (other_items (other_items (other_items text)))) ≢ [] → (call : Call) → Spells text call → ⊥
+shows_too_much text named more call s = more (sym (starts text (codes "show") named) ∙ ends text call s)
 
-  -- no call is spelled by a text of more than three items that starts with "c"
-  pub relates_too_much : (call : Call) → Spells text call → ⊥
-  relates_too_much (Book hex) s = search rules
-  relates_too_much (Sheet count words) s = search rules
-  relates_too_much (AskBook q) s = none_of_book q s
-  relates_too_much (AskWorld q) s = none_of_world q s
-  relates_too_much (Open base) s = search rules
-  relates_too_much (Register call) s = none_of_register call.action call.nodes s.0
-  relates_too_much (Relation first second) s = more s.1.1.1
-  relates_too_much Classes s = search rules
+-- nor by one of more than three items that starts with "c"
+pub relates_too_much : (text : List ℕ) → first_item text ≡ codes "c" → other_items (other_items (other_items text)) ≢ [] → (call : Call) → Spells text call → ⊥
+relates_too_much text named more call s = more (sym (starts text (codes "c") named) ∙ ends text call s)
 
-module _ (text : List ℕ) (named : first_item text ≡ codes "classes") (more : other_items text ≢ []) where
-  none_to_book : (q : BookQuestion) → SpellsBook text q → ⊥
-  none_to_book Read s = search rules
-  none_to_book Parts s = search rules
-  none_to_book (Below h r t) s = search rules
-  none_to_book (Transitive h r) s = search rules
-
-  none_to_world : (q : WorldQuestion) → SpellsWorld text q → ⊥
-  none_to_world (Judge entry) s = search rules
-  none_to_world (Keeps base) s = search rules
-
-  none_to_register : (a : Action) (nodes : ℕ) → SpellsAction text a nodes → ⊥
-  none_to_register (File entry) nodes s = search rules
-  none_to_register (Ask a b) nodes s = search rules
-  none_to_register (Show a b words) nodes s = search rules
-
-  -- no call is spelled by a text of more than one item that starts with "classes"
-  pub lists_too_much : (call : Call) → Spells text call → ⊥
-  lists_too_much (Book hex) s = search rules
-  lists_too_much (Sheet count words) s = search rules
-  lists_too_much (AskBook q) s = none_to_book q s
-  lists_too_much (AskWorld q) s = none_to_world q s
-  lists_too_much (Open base) s = search rules
-  lists_too_much (Register call) s = none_to_register call.action call.nodes s.0
-  lists_too_much (Relation first second) s = search rules
-  lists_too_much Classes s = more s.1
+-- nor by one of more than one item that starts with "classes"
+pub lists_too_much : (text : List ℕ) → first_item text ≡ codes "classes" → other_items text ≢ [] → (call : Call) → Spells text call → ⊥
+lists_too_much text named more call s = more (sym (starts text (codes "classes") named) ∙ ends text call s)
