@@ -6,11 +6,8 @@ ghost use Rattle.roles.specs.Told.{Inside, marked};
 ghost use Rattle.roles.specs.Closure.{closure, closure_law, Below};
 
 use crate::reach::reach;
-use book::Book;
+use book::{Book, TRANSITIVE};
 use meaning::{Hierarchy, Order};
-
-// What the record of a transitive role is: a byte of the book's format.
-const TRANSITIVE: u8 = 1;
 
 // The role section and the pair section of a book, lent.
 #[derive(Clone, Copy)]
