@@ -103,7 +103,7 @@ pub fn has_world_over(
 }
 
 // The calls of a program in C.
-// Stays: such a program gives and gets numbers: a seed as two words, an answer as a number, and a number where there is none.
+// Stays: such a program gives and gets numbers: a seed as two words, an answer as a number, one too where there is none.
 
 // The number of working entries, 0 where the book has no plan.
 #[unsafe(no_mangle)]
