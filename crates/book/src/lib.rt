@@ -13,7 +13,7 @@ pub mod read;
 mod records;
 pub mod trailer;
 
-// What the record of a role is: a byte, and reading lets no other pass.
+// The two records of a role: reading lets no other byte pass.
 pub const PLAIN: u8 = 0;
 
 pub const TRANSITIVE: u8 = 1;

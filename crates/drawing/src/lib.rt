@@ -27,8 +27,8 @@ pub fn draw<W: World>(world: &W, roles: u8, words: &mut [u64]) -> Result<usize, 
     'names: for (n, word) in words[1..ROWS].iter_mut().enumerate() {
         *word = bearers(world, n);
     }
-    // Stays: by the role's number. The contract of `chunks_exact_mut` does not say what the words are afterwards, and one loop
-    // over all rows would divide each place by m to find its role.
+    // Stays: by the role's number. The contract of `chunks_exact_mut` does not say what the words are afterwards; parts split off
+    // one after another would each need that they lie end to end; and one loop over all rows would find the role by a division.
     'roles: for r in 0..roles {
         let first = ROWS + r * m;
         'individuals: for (x, row) in words[first..first + m].iter_mut().enumerate() {

@@ -13,7 +13,7 @@ use search::Node;
 pub const ROWS: usize = 64;
 
 // The rows of all roles: row x of the role r is at 64 * r + x.
-// Stays: one array, and not one for each role: a row is one multiplication away, and each clause names it by one number.
+// Stays: one array, since contracts read the rows as one list (`kept_world`), and no heap is taken.
 const TABLE: usize = 4096;
 
 // The set, or none.
@@ -36,7 +36,7 @@ impl<'a> Edges<'a> {
         )
     }
 
-    // Joins to each row of the table what it gets.
+    // Joins to each row of the table what it gets. The place of a row is taken apart into its role and its individual.
     // Stays: two arrays of rows, since the chains are worked out of a whole array of rows, in place.
     fn spread(&self, own: &[u64; 64], chains: &[u64; 64], table: &mut [u64; 4096])
         ensures { (t x : ℕ) → t < 64 → x < 64 → slice_index table.new (64 * t + x) ≡ bit_or (slice_index table.old (64 * t + x)) (share_of (t == self.now.role) (has (slice_index self.now.plan.now.rows self.now.role) t) (slice_index own.now x) (slice_index chains.now x)) }

@@ -25,7 +25,8 @@ const MOST: usize = 64;
 
 // The individuals are the nodes. `names` has for each name the set of the entries that are it, and `rows` at 64 * r + x the
 // set of the individuals to which the role r joins x.
-// Stays: the library takes no heap, so the rows are in arrays of the size that they can have at most.
+// Stays: the library takes no heap, so the rows are in arrays of the size that they can have at most, those of all roles in one, as
+// contracts read them (`kept_world`).
 #[derive(Clone, Copy)]
 pub struct Found<'a> {
     nodes: &'a [Node],

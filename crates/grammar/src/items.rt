@@ -30,6 +30,7 @@ impl<'a> Items<'a> {
     }
 
     // The next item, or the empty text where there is none.
+    // Stays: the empty text is no name of a call, of a hierarchy or of a number, so that an Option would be one refusal more.
     pub fn item(&mut self) -> &'a str
         ensures item { result.now ≡ first_item self.old.rest.now }
         ensures rest { self.new.rest.now ≡ other_items self.old.rest.now }

@@ -14,6 +14,7 @@ pub enum Relation {
 
 impl Relation {
     // The number by which a host gets the relation.
+    // Stays: hosts get it by a public method of this name.
     pub fn number(self) -> u32
         ensures { result ≡ relation_number self }
     {

@@ -24,6 +24,7 @@ pub fn denied(heap: Global, report: Report) -> Result<String, AllocError>
 
 // The lines of a listing have numbers of two decimal digits. They are the last two: entries are below 60, class numbers at
 // most 24 and the numbers of refusals at most 17, so nothing is lost.
+// Stays: the library prints two digits into a text, and these are bytes at fixed places.
 #[tactic(auto, unfolding(crate::specs::Listings::both_digits))]
 fn two_digits(n: u8) -> [u8; 2]
     ensures { result ≡ both_digits n }

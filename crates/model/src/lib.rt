@@ -50,6 +50,7 @@ pub fn has_world(plan: &Plan, nodes: &mut [Node], seed: Label) -> Result<bool, N
 }
 
 // The same as `find`, in nodes that are blank.
+// Stays: a plan, the nodes and a seed are all that a search of a plan is given, as in `search`.
 // Stays: `find` and `has_world` stand beside `find_in_blank` and `tried`, which ask for blank nodes and wipe no more than was
 // written. With many lent nodes a wipe of all of them is the dearest part of a small search.
 // Stays: that they are blank is a clause here and in `tried`, as in `search`: a struct that carries it needs as many clauses.

@@ -30,7 +30,8 @@ pub struct Propagations {
 
 impl Propagations {
     // All of them.
-    // Stays: entries and roles go by number, and a chain over the numbers would be no plainer than these loops.
+    // Stays: entries and roles go by number, and each pair that is found is pushed on the list, so that a chain over the pairs
+    // would end in a loop all the same. A book goes with a hierarchy here and in `build`: `Draft` is what holds both.
     pub fn of(book: &Book, base: &Rows) -> Propagations
         ensures { Lists result (propagated_list (box_of base.now) (says (view book.now))) }
     {

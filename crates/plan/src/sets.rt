@@ -21,10 +21,12 @@ impl<'a> Entries<'a> {
     pub fn above(&self, rows: &[u64; 64]) -> [u64; 64]
         ensures { (r j : ℕ) → r < 64 → has (slice_index result r) j ≡ (nat_lt j (length self.now.items.now) && has (slice_index rows.now r) (listed_role self.now.items.now j)) }
     {
+        // Stays: `map` of an array says what its items are by calls in turn, and `tabulate` by their numbers, as the clause does.
         words::tabulate(|r| self.above_row(rows[r]))
     }
 
     // The entries whose role is in the set.
+    // Stays: by number, here and in `absurd`, since what is collected are the numbers of the entries that pass.
     fn above_row(&self, row: u64) -> u64
         ensures { (j : ℕ) → has result j ≡ (nat_lt j (length self.now.items.now) && has row (listed_role self.now.items.now j)) }
     {
@@ -43,6 +45,7 @@ impl<'a> Entries<'a> {
 }
 
 // The role of a restriction; of any other entry 0.
+// Stays: 0 and no Option, as `role_of` says, which the definitions ask of restrictions alone.
 fn role(entry: Entry) -> usize
     ensures { result ≡ role_of entry }
 {

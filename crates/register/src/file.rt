@@ -13,8 +13,8 @@ impl Register {
     // The class number of the entry: 0 where no world that keeps the book has an individual in it, that of the class from
     // which no world holds it apart, or else the next number. Refused with 8 where the entry is not in the book, with 15 where
     // the nodes do not suffice, and with 14 where there is no next number. Every node is blank after it.
-    // Stays: that a class is at most 24 is a clause here and of the three functions that find it. The definition of the answer,
-    // which is the first clause, does not say it, and callers that write two digits want it.
+    // Stays: that a class is at most 24 is a clause here, for callers that write two digits, and of the three functions that it
+    // follows from: each of them answers with a class, and a type for one would be made in each.
     pub fn file(&mut self, entry: usize, nodes: &mut [Node]) -> Result<usize, Denial>
         ensures done { done (reply_of class result) self.new nodes.new [] ≡ step (setup_of self.old) (classes_of self.old) (Call.file entry (length nodes.old)) }
         ensures setup { setup_of self.new ≡ setup_of self.old }

@@ -21,7 +21,8 @@ pub use show::{Shown, Side};
 // What calls need of the book and the hierarchy, and the classes: class k + 1 stands by the entry `classes[k]`. Class 0 is
 // nothing.
 // Stays: entries are numbers, and have no type that knows that they are below 60. What is said of the classes would then be
-// said of a list of entries through a map to their numbers.
+// said of a list of entries through a map to their numbers. Two classes, or their entries, go with the nodes through `ask`, `show`
+// and `file`: each call has others, and a struct of them would be made at each.
 #[derive(Drop)]
 pub struct Register {
     plan: Plan,

@@ -82,14 +82,15 @@ pub fn lowest(nodes: &[Node], seed: Label) -> Option<usize>
 fn newest(nodes: &[Node]) -> Option<(usize, Waiting)>
     ensures { NewestIn nodes.now result }
 {
+    // The node at that place waits, so that the second `?` never leaves.
     let p = nodes.iter().rposition(|x| x.waiting.is_some())?;
     Some((p, nodes[p].waiting?))
 }
 
 // Goes on with the obligations of the newest waiting node until one wants a further node: the seed of that node, or `None`
 // where no node of the first m waits any more. A standing label that contains the seed of an obligation is reused.
-// Stays: the nodes in use are the first m of those lent, here and in `retreat`. A struct of both would be made and taken apart by
-// the loop at each turn, which hands on the tail of the slice to be wiped.
+// Stays: the nodes in use are the first m of those lent, here and in `retreat`. A struct of both would have to say in each clause
+// that it holds the same slice.
 fn lacking<S: Strategy>(strategy: &S, nodes: &mut [Node], m: usize) -> Result<Option<Label>, NoRoom>
     requires { Fit nodes.old m Go }
     ensures { Lacks (S.Strategy.game strategy.now) nodes.old m nodes.new result }

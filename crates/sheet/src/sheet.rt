@@ -51,7 +51,7 @@ impl<'a> Sheet<'a> {
     }
 
     // Word i, 0 past the end.
-    // Stays: a sheet means a world whatever its words are, as `sheet_world` defines, so that it has no fact of its own to keep.
+    // Stays: by decision a sheet means a world whatever its words are: the code reads words as `sheet_world` does, past the end too.
     fn word(&self, i: usize) -> u64
         ensures { result ≡ slice_index self.now.words.now i }
     {

@@ -141,8 +141,8 @@ impl Iterator for Members {
 
 // The seed of a successor by r of a node with the label, for an obligation to the part a with the sign.
 // Only those entries of the label are asked whose role is above r: the others tell nothing.
-// Stays: the three numbers of a `Demand` one by one, since a caller may have them from elsewhere; and the plan with a label,
-// here and in the functions beside it: each call has another label.
+// Stays: the three numbers of a `Demand` one by one. It holds bytes, and to ask for one would narrow what this call takes. The plan
+// goes with a label here and in the functions beside it: each call has another label.
 pub fn seed(plan: &Plan, label: Label, r: usize, sign: bool, a: usize) -> Label
     requires successor { r < 64 }
     requires part { a < 64 }

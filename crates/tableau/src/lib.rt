@@ -108,6 +108,7 @@ pub enum Ways {
 }
 
 // What an entry that obliges a node asks for: a successor by the role, in the part (true) or outside it.
+// Stays: the sign is a bool, as in a label.
 #[derive(Clone, Copy)]
 pub struct Demand {
     pub role: u8,

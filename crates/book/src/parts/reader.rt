@@ -32,6 +32,7 @@ impl<'a> Parts<'a> {
     }
 
     // Where the next part that is no note starts, and how many bytes it has; 0 and 0 at the end.
+    // Stays: the end has neither, as `target_of` and `size_of` say by 0, so that the arms of `advance` need no case for it.
     fn target(&self) -> (usize, usize)
         ensures place { result.0 ≡ target_of self.now.bytes.now self.now.layout self.now.stage }
         ensures size { result.1 ≡ size_of self.now.layout self.now.stage }
