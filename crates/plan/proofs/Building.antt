@@ -54,6 +54,13 @@ roles_first n j es small = ⊎_elim
     (λ g. subst (λ e. role_of e < 64) (sym (get_or_past (take n es) j (Plain Nothing) (omega (arith, length-take n es)))) (omega arith))
     (cases_lt j n)
 
+-- among the first entries too each has lower parts
+pub lower_first : (n j : ℕ) (es : List Entry) → ((i : ℕ) → is_lower i (listed_entry es i) ≡ true) → is_lower j (listed_entry (take n es) j) ≡ true
+lower_first n j es low = ⊎_elim
+    (λ l. ap (is_lower j) (get_or-take n es j (Plain Nothing) l) ∙ low j)
+    (λ g. ap (is_lower j) (get_or_past (take n es) j (Plain Nothing) (omega (arith, length-take n es))))
+    (cases_lt j n)
+
 module _ (H : RoleBox) (K : Book) (P : Opens H K) where
   role_small : (i : ℕ) → role_of (entry_of H K i) < 64
   role_small i = ⊎_elim
@@ -65,9 +72,12 @@ module _ (H : RoleBox) (K : Book) (P : Opens H K) where
     pub roles_in : (i : ℕ) → listed_role es i < 64
     roles_in i = subst (λ e. role_of e < 64) (sym (same i)) (role_small i)
 
+    pub lower_at : (i : ℕ) → is_lower i (listed_entry es i) ≡ true
+    lower_at i = lower_test i (listed_entry es i) (subst (LowerEntry i) (sym (same i)) (lower H K P i))
+
     pub all_lowered : lowered es ≡ true
     unfolding lowered
-    all_lowered = all_from 64 (λ i. is_lower i (listed_entry es i)) (λ i l. lower_test i (listed_entry es i) (subst (LowerEntry i) (sym (same i)) (lower H K P i)))
+    all_lowered = all_from 64 (λ i. is_lower i (listed_entry es i)) (λ i l. lower_at i)
 
 -- a transitive role of the universal layer, by the marks of the hierarchy under it
 pub marks_same : (n : ℕ) (passing : ℕ → Bool) (r : ℕ) → n < 64

@@ -13,6 +13,8 @@ use Rattle.meaning.specs.Books.{Book}
 use Rattle.meaning.specs.Orders.{RoleBox}
 use Rattle.meaning.specs.declared.Concept.TheVariants.{Nothing, Restriction}
 use Rattle.meaning.specs.declared.Quantifier.TheVariants.{Forall}
+use Rattle.tableau.specs.declared.Label.{Label}
+use Rattle.tableau.specs.Labels.{empty, in_label}
 use Rattle.tableau.specs.declared.Entry.{Entry}
 use Rattle.tableau.specs.declared.Entry.TheVariants.{Plain, Inclusions}
 use Rattle.tableau.specs.Working.{with_other_role, propagated_list, nowhere, plain_of, book_entry, width_of, rule_entry, entry_of, propagates_of}
@@ -20,6 +22,7 @@ use Rattle.tableau.proofs.Tables.{entry_propagated, entry_rule, entry_book, entr
 use Rattle.plan.specs.declared.working.Draft.{Draft}
 use Rattle.plan.specs.Building.{box_of}
 use Rattle.plan.specs.Plans.{listed_entry}
+use Rattle.plan.specs.Signs.{Signs, said_of}
 use Rattle.plan.specs.Listing.{noted_as}
 
 -- a table that a closure filled, where the closure computes h
@@ -130,3 +133,22 @@ within_first n j es p l =
     (λ in_first. ap (λ e. ltb j n && p e) (get_or-take n es j (Plain Nothing) in_first))
     (λ past. and_left _ _ (le-ltb j n past) ∙ sym (and_left _ _ (le-ltb j n past)))
     (cases_lt j n)
+
+-- a label of which each word is such a set
+pub signs_from : (p : Entry → Bool → Bool) (n : ℕ) (es : List Entry) (a b : ℕ) → ((i : ℕ) → has a i ≡ (ltb i n && p (listed_entry es i) true))
+    → ((i : ℕ) → has b i ≡ (ltb i n && p (listed_entry es i) false)) → Signs p n es (record { plus = a; minus = b })
+unfolding in_label
+signs_from p n es a b f g true i = f i
+signs_from p n es a b f g false i = g i
+
+-- what such a label says of the first n entries
+pub signs_first : (p : Entry → Bool → Bool) (n : ℕ) (es : List Entry) (l : Label) → n ≤ length es → Signs p (length (take n es)) (take n es) l → Signs p n es l
+signs_first p n es l h so s i = so s i ∙ within_first n i es (λ e. p e s) h
+
+-- what the entries say of their parts, past the end too
+pub said_all : (es : List Entry) (ls : List Label) → length es ≡ 64 → length ls ≡ 64 → ((i : ℕ) → i < 64 → get_or ls i empty ≡ said_of (listed_entry es i))
+    → (i : ℕ) → get_or ls i empty ≡ said_of (listed_entry es i)
+said_all es ls long many each i = ⊎_elim
+    (λ l. each i l)
+    (λ g. get_or_past ls i empty (omega arith) ∙ sym (ap said_of (get_or_past es i (Plain Nothing) (omega arith))))
+    (cases_lt i 64)

@@ -2,3 +2,4 @@ pub mod Lowered
 pub mod Listing
 pub mod Filling
 pub mod Building
+pub mod Forcing

@@ -10,7 +10,7 @@ use Rattle.tableau.specs.Entries.{LowerEntry}
 use Rattle.plan.specs.declared.Plan.{Plan}
 use Rattle.plan.specs.Plans.{listed_entry, is_lower, lowered}
 
-lower_from : (i : ℕ) (e : Entry) → is_lower i e ≡ true → LowerEntry i e
+pub lower_from : (i : ℕ) (e : Entry) → is_lower i e ≡ true → LowerEntry i e
 lower_from i (Plain Nothing) h = tt
 lower_from i (Plain Everything) h = tt
 lower_from i (Plain (Name n)) h = tt

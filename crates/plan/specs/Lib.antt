@@ -1,4 +1,6 @@
 pub mod Plans
+pub mod Signs
+pub mod Forcing
 pub mod Meanings
 pub mod Building
 pub mod Listing

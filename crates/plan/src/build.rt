@@ -8,7 +8,8 @@ ghost use Rattle.tableau.specs.Promises.{Opens};
 ghost use Rattle.plan.specs.Building.{Planned, Fitting, verdict, granting, box_of};
 
 use crate::Plan;
-use crate::sets::Entries;
+use crate::forced::Forced;
+use crate::sets::{Entries, passed_on, said_by};
 use crate::working::Draft;
 use book::Book;
 use denial::Denial;
@@ -58,18 +59,26 @@ fn assembled(draft: &Draft, universal: &Universal<Rows>) -> Plan
         items: &entries[..width],
     };
     let above = listed.above(&rows);
-    let nothing = listed.absurd(true);
-    let everything = listed.absurd(false);
+    let marks = asked::marks(universal);
+    let propagated = draft.propagated();
+    let said = said_by(&entries);
+    let passed_on = passed_on(&entries, marks, &propagated);
     Plan {
         width,
         plain: draft.plain(),
         count: universal.count(),
         entries,
         rows,
-        marks: asked::marks(universal),
+        marks,
         above,
-        propagated: draft.propagated(),
-        nothing,
-        everything,
+        propagated,
+        nothing: listed.absurd(true),
+        everything: listed.absurd(false),
+        growing: listed.growing(),
+        obliging: listed.obliging(),
+        restricting: listed.restricting(),
+        said,
+        passed_on,
+        forced: Forced::of(&listed),
     }
 }

@@ -2,21 +2,29 @@
 // universal role as rows, and the sets of entries that make the seed of a successor a few operations on words.
 #![tactic(auto)]
 
-ghost use Rattle.std.specs.Prelude.{◌≡◌, ℕ, ◌<◌, ◌≤◌, true, false, ◌&&◌, length, nat_lt, slice_index};
+ghost use Rattle.std.specs.Prelude.{◌≡◌, ℕ, ◌<◌, ◌≤◌, Bool, true, false, ◌&&◌, length, nat_lt, slice_index, slice_index_or};
 ghost use Rattle.words.specs.Sets.{has};
+ghost use Rattle.tableau.specs.Labels.{empty};
 ghost use Rattle.plan.specs.Plans.{lowered, listed_entry, listed_role, absurd_in};
+ghost use Rattle.plan.specs.Signs.{Signs, PassesOn, grows, obliging_entry, restricting_entry, said_of};
+ghost use Rattle.plan.specs.Forcing.{Forces, forced_by};
 
+use forced::Forced;
 use meaning::Concept;
-use tableau::Entry;
+use tableau::{Entry, Label};
 
 mod build;
+pub mod forced;
 mod propagated;
-mod sets;
+pub mod sets;
 mod working;
 
 // Row r of `rows` is the set of the roles that r is below; `marks` are the transitive roles. Row r of `above` is the set of
 // the working entries whose role r is below. Row i of `propagated` is the set of the propagated restrictions of entry i.
-// `nothing` and `everything` are the entries that clash with + and with -.
+// `nothing` and `everything` are the entries that clash with + and with -. `growing` are the signed entries by which a label may
+// have to hold more, `obliging` those that oblige to a successor and `restricting` those that restrict all successors; entry i
+// of `said` is what restriction i says of its part then, and row i of `passed_on` the set of what is told on of it. `forced` is
+// what signed entries force.
 // Stays: the library takes no heap, so all of it is in fixed arrays, with the width and the count of roles beside them.
 #[derive(Clone, Copy)]
 pub struct Plan {
@@ -30,6 +38,12 @@ pub struct Plan {
     pub propagated: [u64; 64],
     pub nothing: u64,
     pub everything: u64,
+    pub growing: Label,
+    pub obliging: Label,
+    pub restricting: Label,
+    pub said: [Label; 64],
+    pub passed_on: [u64; 64],
+    pub forced: Forced,
     ghost few: { width ≤ 64 },
     ghost entries_long: { length entries ≡ 64 },
     ghost rows_long: { length rows ≡ 64 },
@@ -41,6 +55,14 @@ pub struct Plan {
     ghost inside: { (i j : ℕ) → has (slice_index propagated i) j ≡ true → j < width },
     ghost nothing_is: { (i : ℕ) → has nothing i ≡ (nat_lt i width && absurd_in entries i true) },
     ghost everything_is: { (i : ℕ) → has everything i ≡ (nat_lt i width && absurd_in entries i false) },
+    ghost growing_are: { Signs grows width entries growing },
+    ghost obliging_are: { Signs obliging_entry width entries obliging },
+    ghost restricting_are: { Signs restricting_entry width entries restricting },
+    ghost said_long: { length said ≡ 64 },
+    ghost said_is: { (i : ℕ) → slice_index_or said i empty ≡ said_of (listed_entry entries i) },
+    ghost passed_on_long: { length passed_on ≡ 64 },
+    ghost passed_on_is: { PassesOn marks propagated entries passed_on },
+    ghost forced_is: { (s : Bool) (i : ℕ) → Forces width entries s i (forced_by forced s i) },
 }
 
 impl Plan {

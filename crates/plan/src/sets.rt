@@ -1,12 +1,16 @@
-// Sets of working entries, worked out once: those whose role a role is below, and those that clash with a sign alone.
-ghost use Rattle.std.specs.Prelude.{◌≡◌, ℕ, ◌<◌, ◌≤◌, ◌&&◌, length, nat_lt, slice_index};
+// Sets of working entries, worked out once: those whose role a role is below, and those that do something by their sign.
+ghost use Rattle.std.specs.Prelude.{◌≡◌, ℕ, ◌<◌, ◌≤◌, true, cond, ◌&&◌, ◌==◌, length, nat_lt, slice_index, slice_index_or};
 ghost use Rattle.words.specs.Sets.{has};
+ghost use Rattle.tableau.specs.Entries.{LowerEntry};
 ghost use Rattle.tableau.specs.Expansions.{absurd_entry};
-ghost use Rattle.tableau.specs.Seeds.{role_of};
-ghost use Rattle.plan.specs.Plans.{listed_role, absurd_in};
+ghost use Rattle.tableau.specs.Labels.{empty};
+ghost use Rattle.tableau.specs.Seeds.{role_of, obliges, sign_of};
+ghost use Rattle.plan.specs.Plans.{listed_entry, listed_role, absurd_in, is_lower};
+ghost use Rattle.plan.specs.Signs.{Signs, PassesOn, grows, obliging_entry, restricting_entry, restricting_sign, said_of};
 
-use meaning::Concept;
-use tableau::Entry;
+use meaning::{Concept, Quantifier};
+use std::array;
+use tableau::{Entry, Label};
 
 // The working entries of a plan, lent: 64 at most, and each by a role below 64.
 #[derive(Clone, Copy)]
@@ -14,6 +18,7 @@ pub struct Entries<'a> {
     pub items: &'a [Entry],
     ghost few: { length items.now ≤ 64 },
     ghost roles: { (j : ℕ) → listed_role items.now j < 64 },
+    ghost lower: { (j : ℕ) → is_lower j (listed_entry items.now j) ≡ true },
 }
 
 impl<'a> Entries<'a> {
@@ -42,6 +47,135 @@ impl<'a> Entries<'a> {
     {
         words::collect(self.items.len(), |i| is_absurd(self.items[i], sign))
     }
+
+    // The signed entries by which a label may have to hold more.
+    pub fn growing(&self) -> Label
+        ensures { Signs grows (length self.now.items.now) self.now.items.now result }
+    {
+        let n = self.items.len();
+        Label {
+            plus: words::collect(n, |i| grows(self.items[i], true)),
+            minus: words::collect(n, |i| grows(self.items[i], false)),
+        }
+    }
+
+    // The signed entries that oblige to a successor.
+    pub fn obliging(&self) -> Label
+        ensures { Signs obliging_entry (length self.now.items.now) self.now.items.now result }
+    {
+        let n = self.items.len();
+        Label {
+            plus: words::collect(n, |i| obliging(self.items[i], true)),
+            minus: words::collect(n, |i| obliging(self.items[i], false)),
+        }
+    }
+
+    // The signed entries that restrict all successors.
+    pub fn restricting(&self) -> Label
+        ensures { Signs restricting_entry (length self.now.items.now) self.now.items.now result }
+    {
+        let n = self.items.len();
+        Label {
+            plus: words::collect(n, |i| restricting(self.items[i], true)),
+            minus: words::collect(n, |i| restricting(self.items[i], false)),
+        }
+    }
+}
+
+// Whether a label that holds the signed entry may have to hold more.
+fn grows(entry: Entry, sign: bool) -> bool
+    ensures { result ≡ grows entry sign }
+{
+    match entry {
+        Entry::Plain(Concept::Not(_) | Concept::And(_, _) | Concept::Or(_, _)) => true,
+        Entry::Inclusion(_, _) | Entry::Inclusions(_, _) => sign,
+        _ => false,
+    }
+}
+
+// Whether a signed restriction obliges to a successor.
+pub fn obliges(q: Quantifier, sign: bool) -> bool
+    ensures { result ≡ obliges q sign }
+{
+    match q {
+        Quantifier::Exists => sign,
+        Quantifier::Forall | Quantifier::NoneOf => !sign,
+    }
+}
+
+// The sign with which a signed restriction speaks of its part.
+pub fn sign_of(q: Quantifier, sign: bool) -> bool
+    ensures { result ≡ sign_of q sign }
+{
+    match q {
+        Quantifier::Exists | Quantifier::Forall => sign,
+        Quantifier::NoneOf => !sign,
+    }
+}
+
+fn obliging(entry: Entry, sign: bool) -> bool
+    ensures { result ≡ obliging_entry entry sign }
+{
+    match entry {
+        Entry::Plain(Concept::Restriction(q, _, _)) => obliges(q, sign),
+        _ => false,
+    }
+}
+
+fn restricting(entry: Entry, sign: bool) -> bool
+    ensures { result ≡ restricting_entry entry sign }
+{
+    match entry {
+        Entry::Plain(Concept::Restriction(q, _, _)) => !obliges(q, sign),
+        _ => false,
+    }
+}
+
+// The sign with which an entry restricts all successors.
+fn restricting_sign(q: Quantifier) -> bool
+    ensures { result ≡ restricting_sign q }
+{
+    match q {
+        Quantifier::Exists => false,
+        Quantifier::Forall | Quantifier::NoneOf => true,
+    }
+}
+
+// What each entry says of its part, where it restricts all successors.
+pub fn said_by(entries: &[Entry; 64]) -> [Label; 64]
+    requires { (i : ℕ) → is_lower i (listed_entry entries.now i) ≡ true }
+    ensures { (i : ℕ) → slice_index_or result i empty ≡ said_of (listed_entry entries.now i) }
+{
+    array::from_fn(|i| said(entries[i]))
+}
+
+#[tactic(auto, unfolding(tableau::specs::Labels::empty))]
+fn said(entry: Entry) -> Label
+    requires { LowerEntry 64 entry }
+    ensures { result ≡ said_of entry }
+{
+    match entry {
+        Entry::Plain(Concept::Restriction(q, _, a)) => {
+            Label::EMPTY.with(sign_of(q, restricting_sign(q)), a as usize)
+        }
+        _ => Label::EMPTY,
+    }
+}
+
+// What is told on of each restriction: itself, where its role is transitive, else those propagated of it.
+pub fn passed_on(entries: &[Entry; 64], marks: u64, propagated: &[u64; 64]) -> [u64; 64]
+    requires { (i : ℕ) → listed_role entries.now i < 64 }
+    ensures { PassesOn marks propagated.now entries.now result }
+{
+    words::tabulate(|i| passed_row(words::member(marks, role(entries[i])), i, propagated[i]))
+}
+
+// The set of i alone, or the other.
+fn passed_row(itself: bool, i: usize, propagated: u64) -> u64
+    requires { i < 64 }
+    ensures { (j : ℕ) → has result j ≡ cond itself (j == i) (has propagated j) }
+{
+    if itself { words::single(i) } else { propagated }
 }
 
 // The role of a restriction; of any other entry 0.

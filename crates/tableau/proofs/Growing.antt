@@ -138,10 +138,10 @@ in_branch P e f (One l) p h = (l, p, h)
 in_branch P e f (Two l m) p h = ⊎_elim (λ q. (l, p.0, q)) (λ q. (m, p.1, q)) (in_append e (f l) (f m) h)
 
 -- e is an expansion of l by the entries below k
-record Expanded (B : Table) (k : ℕ) (l e : Label) : Type 0 where
-  grew : Grew k l e
-  calm : clash B e ≡ false
-  done : (i : ℕ) (s : Bool) → i < k → i < B.width → in_label e s i ≡ true → Saturates (B.entry i) s e
+pub record Expanded (B : Table) (k : ℕ) (l e : Label) : Type 0 where
+  pub grew : Grew k l e
+  pub calm : clash B e ≡ false
+  pub done : (i : ℕ) (s : Bool) → i < k → i < B.width → in_label e s i ≡ true → Saturates (B.entry i) s e
 
 -- with no entry left, it is the label itself, if it has no clash
 in_calm : (B : Table) (l e : Label) → In e (cond (clash B l) [] (l ∷ [])) → Expanded B 0 l e
@@ -180,7 +180,7 @@ expanded_step B k l m e t x = record { grew = grew_on k (suc k) l m e (omega ari
         (cases_eq k i)
 
 -- each label that is made is such an expansion
-expand_right : (B : Table) → ((i : ℕ) → LowerEntry i (B.entry i)) → (k : ℕ) (l e : Label) → In e (expand B k l) → Expanded B k l e
+pub expand_right : (B : Table) → ((i : ℕ) → LowerEntry i (B.entry i)) → (k : ℕ) (l e : Label) → In e (expand B k l) → Expanded B k l e
 unfolding expand
 expand_right B low zero l e h = in_calm B l e h
 expand_right B low (suc k) l e h =

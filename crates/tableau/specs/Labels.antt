@@ -25,6 +25,13 @@ abbrev pub put_all : Bool → ℕ → Label → Label
 put_all true set l = record { plus = bit_or l.plus set; minus = l.minus }
 put_all false set l = record { plus = l.plus; minus = bit_or l.minus set }
 
+-- the signed entries of two labels together, and those that both hold
+abbrev pub joined : Label → Label → Label
+joined l m = record { plus = bit_or l.plus m.plus; minus = bit_or l.minus m.minus }
+
+abbrev pub common : Label → Label → Label
+common l m = record { plus = bit_and l.plus m.plus; minus = bit_and l.minus m.minus }
+
 -- is every signed entry of the seed in the label
 unfoldable pub contains : Label → Label → Bool
 contains l seed = bit_and seed.plus l.plus == seed.plus && bit_and seed.minus l.minus == seed.minus

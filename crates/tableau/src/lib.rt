@@ -4,7 +4,7 @@
 
 ghost use Rattle.std.specs.Prelude.{◌≡◌, ℕ, ◌<◌, ◌||◌};
 ghost use Rattle.words.specs.Sets.{has};
-ghost use Rattle.tableau.specs.Labels.{in_label, sign_at, put, put_all, contains};
+ghost use Rattle.tableau.specs.Labels.{in_label, sign_at, put, put_all, joined, common, contains};
 ghost use Rattle.tableau.specs.Examples.{WorkedExamples, ExamplesOpen};
 ghost use Rattle.tableau.specs.Promises.{FailureIsRight, SuccessIsRight, RoomSuffices, SearchWithinRoom, StandingLabelsDiffer, EdgesAreThoseChosen, SearchDecides};
 
@@ -76,6 +76,26 @@ impl Label {
                 minus: self.minus | set,
                 ..self
             }
+        }
+    }
+
+    // The signed entries of the two labels together.
+    pub fn joined(self, other: Label) -> Label
+        ensures { result ≡ joined self other }
+    {
+        Label {
+            plus: words::union(self.plus, other.plus),
+            minus: words::union(self.minus, other.minus),
+        }
+    }
+
+    // The signed entries that both labels hold.
+    pub fn common(self, other: Label) -> Label
+        ensures { result ≡ common self other }
+    {
+        Label {
+            plus: words::intersection(self.plus, other.plus),
+            minus: words::intersection(self.minus, other.minus),
         }
     }
 

@@ -8,8 +8,11 @@ use Rattle.roles.specs.declared.rows.Rows.{Rows}
 use Rattle.tableau.specs.Expansions.{absurd_entry}
 use Rattle.tableau.specs.Seeds.{role_of}
 use Rattle.plan.specs.Building.{box_of}
-use Rattle.plan.proofs.Building.{roles_in, roles_first, all_lowered, marks_same}
-use Rattle.plan.proofs.Filling.{propagated_inside, within_first}
+use Rattle.plan.proofs.Building.{roles_in, roles_first, lower_at, lower_first, all_lowered, marks_same}
+use Rattle.plan.proofs.Filling.{propagated_inside, within_first, signs_first}
+use Rattle.plan.specs.Signs.{grows, obliging_entry, restricting_entry}
+use Rattle.plan.specs.Forcing.{forced_by}
+use Rattle.plan.proofs.Forcing.{forces_first}
 use Rattle.plan.proofs.build.assembled.Goals as goal
 
 pub invariant_of-listed : goal.invariant_of-listed
@@ -19,7 +22,18 @@ invariant_of-listed c =
     record {
       few = omega (arith, d.narrow, length-take d.width es.result);
       roles = λ j. roles_first d.width j es.result (roles_in (box_of d.base.now) (says (view d.book.now)) c.requires.opens es.result es.ensures);
+      lower = λ j. lower_first d.width j es.result (lower_at (box_of d.base.now) (says (view d.book.now)) c.requires.opens es.result es.ensures);
     }
+
+pub said_by-said-requires : goal.said_by-said-requires
+said_by-said-requires c =
+    let d = c.args.draft.now in
+    lower_at (box_of d.base.now) (says (view d.book.now)) c.requires.opens c.entries-entries.result c.entries-entries.ensures
+
+pub passed_on-passed_on-requires : goal.passed_on-passed_on-requires
+passed_on-passed_on-requires c =
+    let d = c.args.draft.now in
+    roles_in (box_of d.base.now) (says (view d.book.now)) c.requires.opens c.entries-entries.result c.entries-entries.ensures
 
 pub invariant_of-result : goal.invariant_of-result
 invariant_of-result c =
@@ -38,9 +52,17 @@ invariant_of-result c =
       low = all_lowered H K P es.result es.ensures;
       roles_in = roles_in H K P es.result es.ensures;
       above_is = λ r j l. c.above-above.ensures r j l ∙ within_first d.width j es.result (λ e. has (get_or c.rows-rows.result r 0) (role_of e)) fits;
-      inside = λ i j e. let l = propagated_inside H K i j (sym (c.propagated.ensures i j) ∙ e) in omega (arith, d.width_is);
-      nothing_is = λ i. c.absurd-nothing.ensures i ∙ within_first d.width i es.result (λ e. absurd_entry e true) fits;
-      everything_is = λ i. c.absurd-everything.ensures i ∙ within_first d.width i es.result (λ e. absurd_entry e false) fits;
+      inside = λ i j e. let l = propagated_inside H K i j (sym (c.propagated-propagated.ensures i j) ∙ e) in omega (arith, d.width_is);
+      nothing_is = λ i. c.absurd.ensures i ∙ within_first d.width i es.result (λ e. absurd_entry e true) fits;
+      everything_is = λ i. c.absurd-2.ensures i ∙ within_first d.width i es.result (λ e. absurd_entry e false) fits;
+      growing_are = signs_first grows d.width es.result c.growing.result fits c.growing.ensures;
+      obliging_are = signs_first obliging_entry d.width es.result c.obliging.result fits c.obliging.ensures;
+      restricting_are = signs_first restricting_entry d.width es.result c.restricting.result fits c.restricting.ensures;
+      said_long = search rules;
+      said_is = c.said_by-said.ensures;
+      passed_on_long = search rules;
+      passed_on_is = c.passed_on-passed_on.ensures;
+      forced_is = λ s i. forces_first d.width es.result s i (forced_by c.of.result s i) fits (c.of.ensures s i);
     }
 
 pub returns : goal.returns
@@ -53,8 +75,8 @@ returns c =
       plain_is = c.plain.ensures;
       count_is = c.count.ensures ∙ ap (λ (x : Rows). universal_size x.count) over;
       entry_is = c.entries-entries.ensures;
-      propagated_is = c.propagated.ensures;
+      propagated_is = c.propagated-propagated.ensures;
       row_is = λ r s. c.rows-rows.ensures r s ∙ ap (λ (x : Rows). universal_under x.count (related x.rows) r s) over;
-      marks_are = λ r. c.marks.ensures r ∙ ap (λ (x : Rows). ltb r (universal_size x.count) && universal_passing x.count (has x.marks) r) over
+      marks_are = λ r. c.marks-marks.ensures r ∙ ap (λ (x : Rows). ltb r (universal_size x.count) && universal_passing x.count (has x.marks) r) over
           ∙ marks_same x.count (has x.marks) r c.requires.opens.few;
     }
