@@ -128,7 +128,7 @@ from_few B low k few l c = omega (arith, from_count B low k l c, weight_few k fe
 
 -- A label that clashes has no expansion: labels only grow.
 
-clash_grows : (B : Table) (l m : Label) → Holds m l → clash B l ≡ true → clash B m ≡ true
+pub clash_grows : (B : Table) (l m : Label) → Holds m l → clash B l ≡ true → clash B m ≡ true
 unfolding clash
 clash_grows B l m more e =
     let k = any_some B.width (λ i. clash_at (B.entry i) l i) e in

@@ -20,9 +20,3 @@ lower_more i j h (Plain (Or a b)) low = (omega arith, omega arith)
 lower_more i j h (Plain (Restriction q r a)) low = omega arith
 lower_more i j h (Inclusion c d) low = (omega arith, omega arith)
 lower_more i j h (Inclusions lo n) low = omega arith
-
-pub taken_none : (e : Entry) (k : ℕ) (l : Label) → in_label l true k ≡ false → in_label l false k ≡ false → taken e k l ≡ One l
-unfolding taken
-taken_none e k l h g =
-    cond-false (in_label l true k) (grown e true l) (cond (in_label l false k) (grown e false l) (One l)) h
-    ∙ cond-false (in_label l false k) (grown e false l) (One l) g
