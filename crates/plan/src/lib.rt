@@ -9,15 +9,17 @@ ghost use Rattle.plan.specs.Plans.{lowered, listed_entry, listed_role, absurd_in
 ghost use Rattle.plan.specs.Signs.{Signs, PassesOn, grows, obliging_entry, restricting_entry, said_of};
 ghost use Rattle.plan.specs.Forcing.{Forces, forced_by};
 
-use forced::Forced;
 use meaning::Concept;
 use tableau::{Entry, Label};
 
 mod build;
-pub mod forced;
+mod forced;
 mod propagated;
-pub mod sets;
+mod sets;
 mod working;
+
+pub use forced::Forced;
+pub use sets::{obliges, sign_of};
 
 // Row r of `rows` is the set of the roles that r is below; `marks` are the transitive roles. Row r of `above` is the set of
 // the working entries whose role r is below. Row i of `propagated` is the set of the propagated restrictions of entry i.

@@ -1,7 +1,8 @@
 -- The seeds of a label's obligations, from one entry to the next.
 use Rattle.std.proofs.Common.{◌≡◌, ℕ, zero, suc, ◌+◌, ◌-◌, ◌<◌, ◌≤◌, Bool, true, false, cond, ◌&&◌, ◌||◌, ltb, [], ◌∷◌, length, sym, refl, ap, ◌∙◌, ⊎_elim, add-zero, add-one, arith, Option, None, Some, IfSome, MatchOption, option_map}
-use Rattle.std.proofs.lemmas.Bool.{and_parts, and_cases, or_parts, both_ways, lt-ltb, ltb-true, cond-false, cond_both}
+use Rattle.std.proofs.lemmas.Bool.{and_parts, or_parts, or_cases, lt-ltb, ltb-true, cond-false, cond_both}
 use Rattle.words.specs.Sets.{has}
+use Rattle.words.proofs.Words.{has_and}
 use Rattle.meaning.specs.Orders.{RoleBox}
 use Rattle.meaning.specs.declared.Concept.TheVariants.{Nothing, Everything, Name, Not, And, Or, Restriction}
 use Rattle.tableau.specs.declared.Label.{Label}
@@ -9,10 +10,12 @@ use Rattle.tableau.specs.declared.Entry.{Entry}
 use Rattle.tableau.specs.declared.Entry.TheVariants.{Plain, Inclusion, Inclusions}
 use Rattle.tableau.specs.declared.Demand.{Demand}
 use Rattle.tableau.specs.Entries.{Table, LowerEntry}
-use Rattle.tableau.specs.Labels.{in_label}
+use Rattle.tableau.specs.Labels.{in_label, common}
 use Rattle.tableau.specs.Seeds.{obliges, sign_of, obligation, obliged_at, role_of, seed_of, wants}
 use Rattle.plan.specs.declared.Plan.{Plan}
+use Rattle.plan.specs.Meanings.{table_in, box_in}
 use Rattle.plan.specs.Plans.{listed_entry}
+use Rattle.plan.specs.Signs.{obliging_entry}
 use Rattle.plan.proofs.Lowered.{plan_lower}
 use Rattle.successor.specs.Sets.{NoneFrom, NextFrom}
 use Rattle.successor.specs.Obligations.{seed_before, seeds_up, seeds_from}
@@ -37,11 +40,27 @@ inside i (Inclusions b d) u l few low = tt
 pub obligation_inside : (p : Plan) (i : ℕ) (u : Bool) (o : Option Demand) → i < 64 → o ≡ obligation (listed_entry p.entries i) u → IfSome o Inside
 obligation_inside p i u o l e = rw e (inside i (listed_entry p.entries i) u l (p.roles_in i) (plan_lower p i))
 
--- a label that does not hold the entry has no obligation by it
-idle_at : (B : Table) (l : Label) (i : ℕ) → has l.plus i ≡ false → has l.minus i ≡ false → obliged_at B l i ≡ None
-idle_at B l i p m =
-    cond-false (in_label l true i) (obligation (B.entry i) true) (cond (in_label l false i) (obligation (B.entry i) false) None) (in_plus l true i refl ∙ p)
-    ∙ cond-false (in_label l false i) (obligation (B.entry i) false) None (in_minus l false i refl ∙ m)
+-- an entry that obliges to nothing with the sign
+obligation_none : (e : Entry) (u : Bool) → obliging_entry e u ≡ false → obligation e u ≡ None
+obligation_none (Plain Nothing) u h = refl
+obligation_none (Plain Everything) u h = refl
+obligation_none (Plain (Name n)) u h = refl
+obligation_none (Plain (Not b)) u h = refl
+obligation_none (Plain (And b d)) u h = refl
+obligation_none (Plain (Or b d)) u h = refl
+obligation_none (Plain (Restriction q t b)) u h = cond-false (obliges q u) (wants t (sign_of q u) b) None h
+obligation_none (Inclusion b d) u h = refl
+obligation_none (Inclusions b d) u h = refl
+
+-- a label that holds the entry with no sign by which it obliges has no obligation by it
+idle_at : (B : Table) (l : Label) (i : ℕ) → ((u : Bool) → (in_label l u i && obliging_entry (B.entry i) u) ≡ false) → obliged_at B l i ≡ None
+idle_at B l i idle =
+    cond_both (in_label l true i) (obligation (B.entry i) true) (cond (in_label l false i) (obligation (B.entry i) false) None) (λ o. o ≡ None)
+    (λ h. obligation_none (B.entry i) true (at true h))
+    (λ g. cond_both (in_label l false i) (obligation (B.entry i) false) None (λ o. o ≡ None) (λ h. obligation_none (B.entry i) false (at false h)) (λ h. refl))
+  where
+    at : (u : Bool) → in_label l u i ≡ true → obliging_entry (B.entry i) u ≡ false
+    at u h = ap (λ b. b && obliging_entry (B.entry i) u) (sym h) ∙ idle u
 
 module _ (H : RoleBox) (B : Table) (l : Label) where
   -- the seeds from an entry on are that of the entry and those from the next on
@@ -97,28 +116,52 @@ module _ (H : RoleBox) (B : Table) (l : Label) where
       let e : i + (k - i) ≡ k = omega arith in
       skip_by i (k - i) (omega arith) (λ j g m. none j g (omega arith)) ∙ ap (seeds_from H B l) e
 
--- the entries that the label holds are the members of the set
-abbrev pub Signed : Table → Label → ℕ → Type 0
-Signed B l set = (j : ℕ) → has set j ≡ ((has l.plus j || has l.minus j) && ltb j B.width)
+-- the members of the set are the entries that the label holds with a sign by which they oblige
+pub record Signed (p : Plan) (l : Label) (set : ℕ) : Type 0 where
+  inside : (j : ℕ) → has set j ≡ true → j < p.width
+  idle : (j : ℕ) → j < p.width → has set j ≡ false → (u : Bool) → (in_label l u j && obliging_entry (listed_entry p.entries j) u) ≡ false
 
-pub signed_from : (B : Table) (l : Label) (all below set : ℕ) → ((j : ℕ) → has all j ≡ (has l.plus j || has l.minus j))
-    → ((j : ℕ) → has below j ≡ ltb j B.width) → ((j : ℕ) → has set j ≡ (has all j && has below j)) → Signed B l set
-signed_from B l all below set is low both j = both j ∙ ap (λ b. b && has below j) (is j) ∙ ap (λ b. (has l.plus j || has l.minus j) && b) (low j)
+pub signed_from : (p : Plan) (l c : Label) (set : ℕ) → c ≡ common l p.obliging → ((j : ℕ) → has set j ≡ (has c.plus j || has c.minus j)) → Signed p l set
+unfolding in_label
+signed_from p l c set is both = record { inside = inside; idle = idle }
+  where
+    at : (u : Bool) (j : ℕ) → in_label c u j ≡ (in_label l u j && (ltb j p.width && obliging_entry (listed_entry p.entries j) u))
+    at true j = ap (λ (m : Label). has m.plus j) is ∙ has_and l.plus p.obliging.plus j ∙ ap (λ b. has l.plus j && b) (p.obliging_are true j)
+    at false j = ap (λ (m : Label). has m.minus j) is ∙ has_and l.minus p.obliging.minus j ∙ ap (λ b. has l.minus j && b) (p.obliging_are false j)
+
+    far : (u : Bool) (j : ℕ) → in_label c u j ≡ true → j < p.width
+    far u j h =
+        let m = and_parts (in_label l u j) (ltb j p.width && obliging_entry (listed_entry p.entries j) u) (sym (at u j) ∙ h) in
+        ltb-true j p.width (and_parts (ltb j p.width) (obliging_entry (listed_entry p.entries j) u) m.1).0
+
+    inside : (j : ℕ) → has set j ≡ true → j < p.width
+    inside j h = ⊎_elim (λ t. far true j (in_plus c true j refl ∙ t)) (λ t. far false j (in_minus c false j refl ∙ t)) (or_cases (has c.plus j) (has c.minus j) (sym (both j) ∙ h))
+
+    none : (u : Bool) (j : ℕ) → has set j ≡ false → in_label c u j ≡ false
+    none true j h = in_plus c true j refl ∙ (or_parts (has c.plus j) (has c.minus j) (sym (both j) ∙ h)).0
+    none false j h = in_minus c false j refl ∙ (or_parts (has c.plus j) (has c.minus j) (sym (both j) ∙ h)).1
+
+    idle : (j : ℕ) → j < p.width → has set j ≡ false → (u : Bool) → (in_label l u j && obliging_entry (listed_entry p.entries j) u) ≡ false
+    idle j low h u =
+        ap (λ b. in_label l u j && (b && obliging_entry (listed_entry p.entries j) u)) (sym (lt-ltb j p.width low)) ∙ sym (at u j) ∙ none u j h
 
 -- the entries from k up to `start` have no obligation
 abbrev pub Passed : RoleBox → Table → Label → ℕ → ℕ → Type 0
 Passed H B l k start = (seeds_from H B l k ≡ seeds_from H B l start) × (k ≤ start) × (start ≤ B.width)
 
-module _ (H : RoleBox) (B : Table) (l : Label) (set : ℕ) (signed : Signed B l set) where
+module _ (p : Plan) (l : Label) (set : ℕ) (signed : Signed p l set) where
+  abbrev H : RoleBox
+  H = box_in p
+
+  abbrev B : Table
+  B = table_in p
+
   unsigned : (j : ℕ) → j < B.width → has set j ≡ false → obliged_at B l j ≡ None
-  unsigned j h e = ⊎_elim
-      (λ none. let n = or_parts (has l.plus j) (has l.minus j) none in idle_at B l j n.0 n.1)
-      (λ far. absurd (both_ways (ltb j B.width) far (lt-ltb j B.width h)))
-      (and_cases (has l.plus j || has l.minus j) (ltb j B.width) (sym (signed j) ∙ e))
+  unsigned j h e = idle_at B l j (signed.idle j h e)
 
   -- a member of the set is an entry of the table
   pub signed_in : (i : ℕ) → has set i ≡ true → i < B.width
-  signed_in i e = ltb-true i B.width (and_parts (has l.plus i || has l.minus i) (ltb i B.width) (sym (signed i) ∙ e)).1
+  signed_in i e = signed.inside i e
 
   -- up to the next member there is no obligation
   pub passed_to : (k start i : ℕ) → Passed H B l k start → NextFrom set start i → Passed H B l k i

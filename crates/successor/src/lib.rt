@@ -3,35 +3,14 @@
 
 ghost use Rattle.std.specs.Iterator.{at_most};
 ghost use Rattle.std.specs.Prelude.{◌≡◌, ◌+◌, ◌-◌, ◌<◌, ◌≤◌, [], ◌∷◌, IfSome, MatchOption, option_map};
-ghost use Rattle.tableau.specs.Seeds.{obliges, sign_of, obligation, obliged_at, told_further, told_by_entry, tell, seed_of};
+ghost use Rattle.tableau.specs.Seeds.{obligation, obliged_at, seed_of};
 ghost use Rattle.plan.specs.Meanings.{table_in, box_in};
-ghost use Rattle.plan.specs.Plans.{listed_entry};
 ghost use Rattle.successor.specs.Sets.{TakesLowest};
-ghost use Rattle.successor.specs.Obligations.{told_by_signs, seeds_in};
+ghost use Rattle.successor.specs.Obligations.{seeds_in};
 
-use meaning::{Concept, Quantifier};
-use plan::Plan;
+use meaning::Concept;
+use plan::{Plan, obliges, sign_of};
 use tableau::{Demand, Entry, Label};
-
-// Whether a signed restriction obliges to a successor.
-fn obliges(q: Quantifier, sign: bool) -> bool
-    ensures { result ≡ obliges q sign }
-{
-    match q {
-        Quantifier::Exists => sign,
-        Quantifier::Forall | Quantifier::NoneOf => !sign,
-    }
-}
-
-// The sign with which a signed restriction speaks of its part.
-fn sign_of(q: Quantifier, sign: bool) -> bool
-    ensures { result ≡ sign_of q sign }
-{
-    match q {
-        Quantifier::Exists | Quantifier::Forall => sign,
-        Quantifier::NoneOf => !sign,
-    }
-}
 
 // What a signed entry obliges to, if to anything.
 fn obligation(e: Entry, sign: bool) -> Option<Demand>
@@ -57,67 +36,6 @@ pub fn obligation_at(plan: &Plan, label: Label, i: usize) -> Option<Demand>
     obligation(plan.entry(i), label.sign(i)?)
 }
 
-// A node with the label, which tells a successor by the role what its restrictions say.
-#[derive(Clone, Copy)]
-struct Telling<'p> {
-    plan: &'p Plan,
-    label: Label,
-    role: usize,
-    ghost few: { role < 64 },
-}
-
-// Stays: that i is an entry of the plan, in three contracts. It is another one at each call: no struct keeps it.
-impl<'p> Telling<'p> {
-    // The restriction by t, which stands signed as entry i, is told on: itself where t is transitive, else those of the
-    // restrictions propagated by it whose role is above the successor's.
-    fn further(&self, sign: bool, i: usize, t: usize, acc: Label) -> Label
-        requires place { i < 64 }
-        requires role { t < 64 }
-        ensures { result ≡ told_further (box_in self.now.plan.now) (table_in self.now.plan.now) self.now.role sign i t acc }
-    {
-        if words::member(self.plan.marks, t) {
-            return acc.with(sign, i);
-        }
-        acc.with_all(
-            sign,
-            words::intersection(self.plan.propagated[i], self.plan.above[self.role]),
-        )
-    }
-
-    // What the signed entry i tells the successor.
-    fn entry(&self, sign: bool, i: usize, acc: Label) -> Label
-        requires { i < self.now.plan.now.width }
-        ensures { result ≡ told_by_entry (box_in self.now.plan.now) (table_in self.now.plan.now) self.now.role sign i (listed_entry self.now.plan.now.entries i) acc }
-    {
-        match self.plan.entry(i) {
-            Entry::Plain(Concept::Restriction(q, t, a))
-                if !obliges(q, sign) && words::member(self.plan.above[self.role], i) =>
-                self.further(sign, i, t as usize, acc.with(sign_of(q, sign), a as usize)),
-            _ => acc,
-        }
-    }
-
-    // The same, if the label holds the entry with the sign.
-    fn signed(&self, sign: bool, i: usize, acc: Label) -> Label
-        requires { i < self.now.plan.now.width }
-        ensures { result ≡ tell (box_in self.now.plan.now) (table_in self.now.plan.now) self.now.label self.now.role sign i acc }
-    {
-        if self.label.holds(sign, i) {
-            self.entry(sign, i, acc)
-        } else {
-            acc
-        }
-    }
-
-    // What the label tells the successor of entry i.
-    fn tell(&self, i: usize, acc: Label) -> Label
-        requires { i < self.now.plan.now.width }
-        ensures { result ≡ told_by_signs (box_in self.now.plan.now) (table_in self.now.plan.now) self.now.label self.now.role i acc }
-    {
-        self.signed(true, i, self.signed(false, i, acc))
-    }
-}
-
 // The members of a set, by rising number.
 #[derive(Drop)]
 struct Members(u64);
@@ -140,7 +58,8 @@ impl Iterator for Members {
 }
 
 // The seed of a successor by r of a node with the label, for an obligation to the part a with the sign.
-// Only those entries of the label are asked whose role is above r: the others tell nothing.
+// Each restriction of the label whose role is above r tells what it says of its part, and what is told on of it, so far as
+// that has a role above r too.
 // Stays: the three numbers of a `Demand` one by one. It holds bytes, and to ask for one would narrow what this call takes. The plan
 // goes with a label here and in the functions beside it: each call has another label.
 pub fn seed(plan: &Plan, label: Label, r: usize, sign: bool, a: usize) -> Label
@@ -148,15 +67,15 @@ pub fn seed(plan: &Plan, label: Label, r: usize, sign: bool, a: usize) -> Label
     requires part { a < 64 }
     ensures { result ≡ seed_of (box_in plan.now) (table_in plan.now) label r sign a }
 {
-    let telling = Telling {
-        plan,
-        label,
-        role: r,
-    };
-    let asked = words::intersection(label.entries(), plan.above[r]);
+    let above = plan.above[r];
+    let told = label.common(plan.restricting);
+    let asked = words::intersection(told.entries(), above);
     let mut acc = Label::EMPTY.with(sign, a);
     for i in Members(asked) {
-        acc = telling.tell(i, acc);
+        acc = acc.joined(plan.said[i]).with_all(
+            words::member(told.plus, i),
+            words::intersection(plan.passed_on[i], above),
+        );
     }
     acc
 }
@@ -182,7 +101,7 @@ pub fn next_seed(plan: &Plan, label: Label, k: usize) -> Option<(Label, usize)>
     if k >= plan.width {
         return None;
     }
-    let signed = words::intersection(label.entries(), words::below(plan.width));
+    let signed = label.common(plan.obliging).entries();
     for i in Members(words::difference(signed, words::below(k))) {
         if let Some(found) = seed_at(plan, label, i) {
             return Some((found, i + 1));
