@@ -1,18 +1,18 @@
 -- What is foreseen of the expansions of a label. Where a clash is foreseen there are none.
-use Rattle.std.proofs.Common.{◌≡◌, ℕ, zero, suc, ◌+◌, ◌-◌, ◌<◌, ◌≤◌, Bool, true, false, cond, ◌||◌, eqb, List, [], ◌∷◌, ◌++◌, sym, refl, ap, ◌∙◌, subst, ⊎_elim, inl, arith}
+use Rattle.std.proofs.Common.{◌≡◌, ℕ, zero, suc, ◌-◌, ◌<◌, Bool, true, false, cond, ◌||◌, eqb, List, [], ◌∷◌, ◌++◌, sym, refl, ap, ◌∙◌, subst, ⊎_elim, inl, arith}
 use Rattle.std.proofs.lemmas.Bool.{both_ways, or_cases, cond_both}
 use Rattle.tableau.specs.declared.Label.{Label}
 use Rattle.tableau.specs.declared.Ways.{Ways}
 use Rattle.tableau.specs.declared.Ways.TheVariants.{One, Two}
 use Rattle.tableau.specs.Labels.{in_label, put, joined}
-use Rattle.tableau.specs.Entries.{Table, LowerEntry}
+use Rattle.tableau.specs.Entries.{Table}
 use Rattle.tableau.specs.Expansions.{clash, taken, branch, expand}
-use Rattle.tableau.proofs.Labelling.{Holds, put_in}
+use Rattle.tableau.proofs.Labelling.{put_in}
 use Rattle.tableau.proofs.Standing.{In, in_left, in_right, in_append}
 use Rattle.tableau.proofs.Growing.{Expanded, expand_right}
 use Rattle.plan.specs.declared.Plan.{Plan}
 use Rattle.plan.specs.Meanings.{table_in}
-use Rattle.plan.specs.Forcing.{Forces, forced_by}
+use Rattle.plan.specs.Forcing.{forced_by}
 use Rattle.plan.proofs.Lowered.{plan_lower}
 use Rattle.plan.proofs.Forcing.{holds_joined}
 use Rattle.expand.specs.Choices.{weight, fork, from}

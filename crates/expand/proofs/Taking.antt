@@ -1,14 +1,9 @@
 -- What the taking of an entry makes of a label, by the signs that the label has it with.
-use Rattle.std.proofs.Common.{◌≡◌, ℕ, ◌≤◌, true, false, cond, ◌∙◌, arith}
-use Rattle.std.proofs.lemmas.Bool.{cond-false}
+use Rattle.std.proofs.Common.{ℕ, ◌≤◌, arith}
 use Rattle.meaning.specs.declared.Concept.TheVariants.{Nothing, Everything, Name, Not, And, Or, Restriction}
-use Rattle.tableau.specs.declared.Label.{Label}
 use Rattle.tableau.specs.declared.Entry.{Entry}
 use Rattle.tableau.specs.declared.Entry.TheVariants.{Plain, Inclusion, Inclusions}
-use Rattle.tableau.specs.declared.Ways.TheVariants.{One}
-use Rattle.tableau.specs.Labels.{in_label}
 use Rattle.tableau.specs.Entries.{LowerEntry}
-use Rattle.tableau.specs.Expansions.{grown, taken}
 
 pub lower_more : (i j : ℕ) → i ≤ j → (e : Entry) → LowerEntry i e → LowerEntry j e
 lower_more i j h (Plain Nothing) low = tt

@@ -1,5 +1,5 @@
 -- What comes of a label up to the first entry that leaves a choice.
-use Rattle.std.specs.Prelude.{◌≡◌, ℕ, suc, ◌<◌, ◌≤◌, Bool, false, [], Option, MatchOption}
+use Rattle.std.specs.Prelude.{◌≡◌, ℕ, suc, ◌<◌, ◌≤◌, false, [], Option, MatchOption}
 use Rattle.tableau.specs.declared.Label.{Label}
 use Rattle.tableau.specs.declared.Ways.{Ways}
 use Rattle.tableau.specs.declared.Ways.TheVariants.{One, Two}

@@ -1,4 +1,3 @@
-use Rattle.std.proofs.Common.{◌≤◌}
 use Rattle.plan.specs.Meanings.{table_in}
 use Rattle.expand.specs.Runs.{Along}
 use Rattle.expand.proofs.descend.Given as goal

@@ -1,4 +1,4 @@
-use Rattle.std.proofs.Common.{◌≡◌, ℕ, true, sym, subst, arith}
+use Rattle.std.proofs.Common.{sym, subst, arith}
 use Rattle.plan.specs.Meanings.{table_in}
 use Rattle.tableau.specs.declared.Label.{Label}
 use Rattle.expand.specs.Runs.{Foreseen}
