@@ -125,11 +125,7 @@ fn clashing(plan: &Plan, label: Label) -> u64
         words::intersection(label.plus, label.minus),
         words::below(plan.width),
     );
-    let absurd = words::union(
-        words::intersection(label.plus, plan.nothing),
-        words::intersection(label.minus, plan.everything),
-    );
-    words::union(both, absurd)
+    words::union(both, label.common(plan.absurd).entries())
 }
 
 // Whether the label clashes.

@@ -4,7 +4,6 @@ use Rattle.meaning.specs.Bounded.{all}
 use Rattle.meaning.specs.declared.Concept.TheVariants.{Nothing, Everything, Name, Not, And, Or, Restriction}
 use Rattle.tableau.specs.declared.Entry.{Entry}
 use Rattle.tableau.specs.declared.Entry.TheVariants.{Plain, Inclusion, Inclusions}
-use Rattle.tableau.specs.Expansions.{absurd_entry}
 use Rattle.tableau.specs.Seeds.{role_of}
 
 -- entry i; past the end it is nothing
@@ -13,9 +12,6 @@ listed_entry entries i = slice_index_or entries i (Plain Nothing)
 
 abbrev pub listed_role : List Entry → ℕ → ℕ
 listed_role entries i = role_of (listed_entry entries i)
-
-abbrev pub absurd_in : List Entry → ℕ → Bool → Bool
-absurd_in entries i s = absurd_entry (listed_entry entries i) s
 
 -- each part of the entry is below i
 abbrev pub is_lower : ℕ → Entry → Bool

@@ -9,7 +9,7 @@ ghost use Rattle.plan.specs.Building.{Planned, Fitting, verdict, granting, box_o
 
 use crate::Plan;
 use crate::forced::Forced;
-use crate::sets::{Entries, passed_on, said_by};
+use crate::sets::{Entries, grows, is_absurd, is_obliging, is_restricting, passed_on, said_by};
 use crate::working::Draft;
 use book::Book;
 use denial::Denial;
@@ -72,11 +72,10 @@ fn assembled(draft: &Draft, universal: &Universal<Rows>) -> Plan
         marks,
         above,
         propagated,
-        nothing: listed.absurd(true),
-        everything: listed.absurd(false),
-        growing: listed.growing(),
-        obliging: listed.obliging(),
-        restricting: listed.restricting(),
+        absurd: listed.signed(is_absurd),
+        growing: listed.signed(grows),
+        obliging: listed.signed(is_obliging),
+        restricting: listed.signed(is_restricting),
         said,
         passed_on,
         forced: Forced::of(&listed),

@@ -4,8 +4,9 @@
 
 ghost use Rattle.std.specs.Prelude.{◌≡◌, ℕ, ◌<◌, ◌≤◌, Bool, true, false, ◌&&◌, length, nat_lt, slice_index, slice_index_or};
 ghost use Rattle.words.specs.Sets.{has};
+ghost use Rattle.tableau.specs.Expansions.{absurd_entry};
 ghost use Rattle.tableau.specs.Labels.{empty};
-ghost use Rattle.plan.specs.Plans.{lowered, listed_entry, listed_role, absurd_in};
+ghost use Rattle.plan.specs.Plans.{lowered, listed_entry, listed_role};
 ghost use Rattle.plan.specs.Signs.{Signs, PassesOn, grows, obliging_entry, restricting_entry, said_of};
 ghost use Rattle.plan.specs.Forcing.{Forces, forced_by};
 
@@ -23,10 +24,10 @@ pub use sets::{obliges, sign_of};
 
 // Row r of `rows` is the set of the roles that r is below; `marks` are the transitive roles. Row r of `above` is the set of
 // the working entries whose role r is below. Row i of `propagated` is the set of the propagated restrictions of entry i.
-// `nothing` and `everything` are the entries that clash with + and with -. `growing` are the signed entries by which a label may
-// have to hold more, `obliging` those that oblige to a successor and `restricting` those that restrict all successors; entry i
-// of `said` is what restriction i says of its part then, and row i of `passed_on` the set of what is told on of it. `forced` is
-// what signed entries force.
+// `absurd` are the signed entries that no individual has, `growing` those by which a label may have to hold more, `obliging`
+// those that oblige to a successor and `restricting` those that restrict all successors. Entry i of `said` is what
+// restriction i says of its part then, and row i of `passed_on` the set of what is told on of it. `forced` is what signed
+// entries force.
 // Stays: the library takes no heap, so all of it is in fixed arrays, with the width and the count of roles beside them.
 #[derive(Clone, Copy)]
 pub struct Plan {
@@ -38,8 +39,7 @@ pub struct Plan {
     pub marks: u64,
     pub above: [u64; 64],
     pub propagated: [u64; 64],
-    pub nothing: u64,
-    pub everything: u64,
+    pub absurd: Label,
     pub growing: Label,
     pub obliging: Label,
     pub restricting: Label,
@@ -55,8 +55,7 @@ pub struct Plan {
     ghost roles_in: { (i : ℕ) → listed_role entries i < 64 },
     ghost above_is: { (r j : ℕ) → r < 64 → has (slice_index above r) j ≡ (nat_lt j width && has (slice_index rows r) (listed_role entries j)) },
     ghost inside: { (i j : ℕ) → has (slice_index propagated i) j ≡ true → j < width },
-    ghost nothing_is: { (i : ℕ) → has nothing i ≡ (nat_lt i width && absurd_in entries i true) },
-    ghost everything_is: { (i : ℕ) → has everything i ≡ (nat_lt i width && absurd_in entries i false) },
+    ghost absurd_are: { Signs absurd_entry width entries absurd },
     ghost growing_are: { Signs grows width entries growing },
     ghost obliging_are: { Signs obliging_entry width entries obliging },
     ghost restricting_are: { Signs restricting_entry width entries restricting },

@@ -1,11 +1,12 @@
 // Sets of working entries, worked out once: those whose role a role is below, and those that do something by their sign.
-ghost use Rattle.std.specs.Prelude.{◌≡◌, ℕ, ◌<◌, ◌≤◌, true, cond, ◌&&◌, ◌==◌, length, nat_lt, slice_index, slice_index_or};
+ghost use Rattle.std.specs.Prelude.{◌≡◌, ℕ, ◌<◌, ◌≤◌, Bool, true, cond, ◌&&◌, ◌==◌, length, nat_lt, slice_index, slice_index_or};
 ghost use Rattle.words.specs.Sets.{has};
 ghost use Rattle.tableau.specs.Entries.{LowerEntry};
 ghost use Rattle.tableau.specs.Expansions.{absurd_entry};
 ghost use Rattle.tableau.specs.Labels.{empty};
+ghost use Rattle.tableau.specs.declared.Entry.{Entry};
 ghost use Rattle.tableau.specs.Seeds.{role_of, obliges, sign_of};
-ghost use Rattle.plan.specs.Plans.{listed_entry, listed_role, absurd_in, is_lower};
+ghost use Rattle.plan.specs.Plans.{listed_entry, listed_role, is_lower};
 ghost use Rattle.plan.specs.Signs.{Signs, PassesOn, grows, obliging_entry, restricting_entry, restricting_sign, said_of};
 
 use meaning::{Concept, Quantifier};
@@ -31,7 +32,7 @@ impl<'a> Entries<'a> {
     }
 
     // The entries whose role is in the set.
-    // Stays: by number, here and in `absurd`, since what is collected are the numbers of the entries that pass.
+    // Stays: by number, here and in `signed`, since what is collected are the numbers of the entries that pass.
     fn above_row(&self, row: u64) -> u64
         ensures { (j : ℕ) → has result j ≡ (nat_lt j (length self.now.items.now) && has row (listed_role self.now.items.now j)) }
     {
@@ -41,49 +42,21 @@ impl<'a> Entries<'a> {
         )
     }
 
-    // The entries that no individual has with the sign.
-    pub fn absurd(&self, sign: bool) -> u64
-        ensures { (i : ℕ) → has result i ≡ (nat_lt i (length self.now.items.now) && absurd_in self.now.items.now i sign) }
-    {
-        words::collect(self.items.len(), |i| is_absurd(self.items[i], sign))
-    }
-
-    // The signed entries by which a label may have to hold more.
-    pub fn growing(&self) -> Label
-        ensures { Signs grows (length self.now.items.now) self.now.items.now result }
+    // The signed entries that pass the test.
+    pub fn signed<F: Fn(Entry, bool) -> bool>(&self, passes: F) -> Label
+        requires callable { (e : Entry) (s : Bool) → F.pre passes e s }
+        ensures { (p : Entry → Bool → Bool) → ((e : Entry) (s b : Bool) → F.post passes e s b → b ≡ p e s) → Signs p (length self.now.items.now) self.now.items.now result }
     {
         let n = self.items.len();
         Label {
-            plus: words::collect(n, |i| grows(self.items[i], true)),
-            minus: words::collect(n, |i| grows(self.items[i], false)),
-        }
-    }
-
-    // The signed entries that oblige to a successor.
-    pub fn obliging(&self) -> Label
-        ensures { Signs obliging_entry (length self.now.items.now) self.now.items.now result }
-    {
-        let n = self.items.len();
-        Label {
-            plus: words::collect(n, |i| obliging(self.items[i], true)),
-            minus: words::collect(n, |i| obliging(self.items[i], false)),
-        }
-    }
-
-    // The signed entries that restrict all successors.
-    pub fn restricting(&self) -> Label
-        ensures { Signs restricting_entry (length self.now.items.now) self.now.items.now result }
-    {
-        let n = self.items.len();
-        Label {
-            plus: words::collect(n, |i| restricting(self.items[i], true)),
-            minus: words::collect(n, |i| restricting(self.items[i], false)),
+            plus: words::collect(n, |i| passes(self.items[i], true)),
+            minus: words::collect(n, |i| passes(self.items[i], false)),
         }
     }
 }
 
 // Whether a label that holds the signed entry may have to hold more.
-fn grows(entry: Entry, sign: bool) -> bool
+pub fn grows(entry: Entry, sign: bool) -> bool
     ensures { result ≡ grows entry sign }
 {
     match entry {
@@ -113,7 +86,7 @@ pub fn sign_of(q: Quantifier, sign: bool) -> bool
     }
 }
 
-fn obliging(entry: Entry, sign: bool) -> bool
+pub fn is_obliging(entry: Entry, sign: bool) -> bool
     ensures { result ≡ obliging_entry entry sign }
 {
     match entry {
@@ -122,7 +95,7 @@ fn obliging(entry: Entry, sign: bool) -> bool
     }
 }
 
-fn restricting(entry: Entry, sign: bool) -> bool
+pub fn is_restricting(entry: Entry, sign: bool) -> bool
     ensures { result ≡ restricting_entry entry sign }
 {
     match entry {
@@ -189,7 +162,7 @@ fn role(entry: Entry) -> usize
     }
 }
 
-fn is_absurd(entry: Entry, sign: bool) -> bool
+pub fn is_absurd(entry: Entry, sign: bool) -> bool
     ensures { result ≡ absurd_entry entry sign }
 {
     match entry {

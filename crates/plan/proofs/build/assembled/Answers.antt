@@ -1,4 +1,4 @@
-use Rattle.std.proofs.Common.{◌≡◌, ◌≤◌, true, false, ◌&&◌, ltb, length, get_or, sym, ap, ◌∙◌, arith, rules, length-take}
+use Rattle.std.proofs.Common.{◌≡◌, ◌≤◌, ◌&&◌, ltb, length, get_or, sym, ap, ◌∙◌, arith, rules, length-take}
 use Rattle.words.specs.Sets.{has}
 use Rattle.meaning.specs.Universal.{universal_size, universal_under, universal_passing}
 use Rattle.book.specs.Sections.{says}
@@ -53,11 +53,10 @@ invariant_of-result c =
       roles_in = roles_in H K P es.result es.ensures;
       above_is = λ r j l. c.above-above.ensures r j l ∙ within_first d.width j es.result (λ e. has (get_or c.rows-rows.result r 0) (role_of e)) fits;
       inside = λ i j e. let l = propagated_inside H K i j (sym (c.propagated-propagated.ensures i j) ∙ e) in omega (arith, d.width_is);
-      nothing_is = λ i. c.absurd.ensures i ∙ within_first d.width i es.result (λ e. absurd_entry e true) fits;
-      everything_is = λ i. c.absurd-2.ensures i ∙ within_first d.width i es.result (λ e. absurd_entry e false) fits;
-      growing_are = signs_first grows d.width es.result c.growing.result fits c.growing.ensures;
-      obliging_are = signs_first obliging_entry d.width es.result c.obliging.result fits c.obliging.ensures;
-      restricting_are = signs_first restricting_entry d.width es.result c.restricting.result fits c.restricting.ensures;
+      absurd_are = signs_first absurd_entry d.width es.result c.signed.result fits (c.signed.ensures absurd_entry (λ e t b h. search rules));
+      growing_are = signs_first grows d.width es.result c.signed-2.result fits (c.signed-2.ensures grows (λ e t b h. search rules));
+      obliging_are = signs_first obliging_entry d.width es.result c.signed-3.result fits (c.signed-3.ensures obliging_entry (λ e t b h. search rules));
+      restricting_are = signs_first restricting_entry d.width es.result c.signed-4.result fits (c.signed-4.ensures restricting_entry (λ e t b h. search rules));
       said_long = search rules;
       said_is = c.said_by-said.ensures;
       passed_on_long = search rules;
