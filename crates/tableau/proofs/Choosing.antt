@@ -99,7 +99,7 @@ module _ (H : RoleBox) (B : Table) (lower : (i : ℕ) → LowerEntry i (B.entry 
     met_both p ms ls a f g x i h l w = ⊎_elim (λ low. met_longer ms ls x i low a (f x i h low w)) (λ high. g x i high l w) (cases_lt x (length ms))
 
     -- the node that an expansion makes has its moment
-    abbrev Starts : ℕ → List Label → Label → Type 0
+    abbrev pub Starts : ℕ → List Label → Label → Type 0
     Starts k st seed = (j : ℕ) (e : Label) → k ≡ suc j → Tried H B n j st seed e → Moment H B n root j (length st) 0 (st ++ e ∷ [])
 
     -- a search that stands ends at a moment of its node, with the obligations met of all nodes that it made
@@ -118,12 +118,12 @@ module _ (H : RoleBox) (B : Table) (lower : (i : ℕ) → LowerEntry i (B.entry 
       others : MetFrom (length st) ls
 
     -- the moments of a node labelled l: its obligation is met, or a node is made for it
-    step_next : (k x i : ℕ) (st : List Label) → Moment H B n root k x i st → (l : Label) → get_or st x empty ≡ l → i < B.width
+    pub step_next : (k x i : ℕ) (st : List Label) → Moment H B n root k x i st → (l : Label) → get_or st x empty ≡ l → i < B.width
         → (ms : List Label) → pursue H B (explore H B n k) l (obliged_at B l i) st ≡ stands ms → Moment H B n root k x (suc i) ms
     step_next k x i st m l is low ms =
         subst (λ c. pursue H B (explore H B n k) c (obliged_at B c i) st ≡ stands ms → Moment H B n root k x (suc i) ms) is (λ e. next k x i st ms m low e)
 
-    step_deeper : (k x i : ℕ) (st : List Label) → Moment H B n root k x i st → (l : Label) → get_or st x empty ≡ l → i < B.width
+    pub step_deeper : (k x i : ℕ) (st : List Label) → Moment H B n root k x i st → (l : Label) → get_or st x empty ≡ l → i < B.width
         → (r : ℕ) (s : Bool) (a : ℕ) → obliged_at B l i ≡ wants r s a → any_contains st (seed_of H B l r s a) ≡ false → Starts k st (seed_of H B l r s a)
     step_deeper k x i st m l is low r s a w h j f up = subst
         (λ c. obliged_at B c i ≡ wants r s a → any_contains st (seed_of H B c r s a) ≡ false → Tried H B n j st (seed_of H B c r s a) f → Moment H B n root j (length st) 0 (st ++ f ∷ []))
@@ -202,18 +202,22 @@ module _ (H : RoleBox) (B : Table) (lower : (i : ℕ) → LowerEntry i (B.entry 
               (cases_eq (length st) x);
         }
 
-    -- where all of some expansions failed, and one more does, all of these failed
-    failed_push : (sub : Searcher) (st before : List Label) (e : Label) → try_each H B sub st before ≡ failed
+    -- where all of some expansions failed, those after them are left; and one more that fails adds to these
+    pub after_failed : (sub : Searcher) (st before rest : List Label) → try_each H B sub st before ≡ failed → try_each H B sub st (before ++ rest) ≡ try_each H B sub st rest
+    unfolding try_each or_else
+    after_failed sub st [] rest h = refl
+    after_failed sub st (c ∷ before) rest h = go (meet_from H B sub c B.width 0 (st ++ c ∷ [])) h (λ g. after_failed sub st before rest g)
+      where
+        go : (z : Outcome) → or_else z (λ u. try_each H B sub st before) ≡ failed → (try_each H B sub st before ≡ failed → try_each H B sub st (before ++ rest) ≡ try_each H B sub st rest)
+            → or_else z (λ u. try_each H B sub st (before ++ rest)) ≡ try_each H B sub st rest
+        go failed h f = f h
+        go full h f = never cc
+        go (stands ms) h f = never cc
+
+    pub failed_push : (sub : Searcher) (st before : List Label) (e : Label) → try_each H B sub st before ≡ failed
         → meet_from H B sub e B.width 0 (st ++ e ∷ []) ≡ failed → try_each H B sub st (before ++ e ∷ []) ≡ failed
     unfolding try_each or_else
-    failed_push sub st [] e h o = ap (λ z. or_else z (λ u. try_each H B sub st [])) o
-    failed_push sub st (c ∷ before) e h o = go (meet_from H B sub c B.width 0 (st ++ c ∷ [])) h (λ g. failed_push sub st before e g o)
-      where
-        go : (z : Outcome) → or_else z (λ u. try_each H B sub st before) ≡ failed → (try_each H B sub st before ≡ failed → try_each H B sub st (before ++ e ∷ []) ≡ failed)
-            → or_else z (λ u. try_each H B sub st (before ++ e ∷ [])) ≡ failed
-        go failed h f = f h
-        go full h f = h
-        go (stands ms) h f = never cc
+    failed_push sub st before e h o = after_failed sub st before (e ∷ []) h ∙ ap (λ z. or_else z (λ u. try_each H B sub st [])) o
 
     -- the first expansion that does not fail
     try_meets : (k : ℕ) → MeetsAll k → (st : List Label) (seed : Label) → Starts (suc k) st seed → length st < n

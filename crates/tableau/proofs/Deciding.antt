@@ -9,7 +9,7 @@ use Rattle.tableau.specs.declared.Label.{Label}
 use Rattle.tableau.specs.Labels.{empty, put}
 use Rattle.tableau.specs.Search.{Outcome, failed, full, stands}
 use Rattle.tableau.specs.Working.{everywhere_entry, width_of, table_of, rooted, seed_of_not, seed_of_one}
-use Rattle.tableau.specs.Promises.{Opens, Satisfies, Seed, search_from, FailureIsRight, Realised, RoomSuffices, SearchWithinRoom, StandingLabelsDiffer, EdgesAreThoseChosen, SearchDecides}
+use Rattle.tableau.specs.Promises.{Opens, Satisfies, Seed, search_from, FailureIsRight, Realised, RoomSuffices, SearchWithinRoom, StandingLabelsDiffer, FullIsRight, EdgesAreThoseChosen, SearchDecides}
 use Rattle.tableau.proofs.Labelling.{in_empty, put_in, put_keeps, put_cases}
 use Rattle.tableau.proofs.Tables.{rooted_everywhere, rooted_cases}
 use Rattle.tableau.proofs.Tabling.{lower, tabled}
@@ -18,6 +18,7 @@ use Rattle.tableau.proofs.Failing.{failure}
 use Rattle.tableau.proofs.Succeeding.{success_is_right}
 use Rattle.tableau.proofs.Choosing.{edge_stays, edges_met, root_ends}
 use Rattle.tableau.proofs.Room.{Narrow, Holding, roomy, distinct, within, always_distinct, always_within}
+use Rattle.tableau.proofs.Refusing.{full_wanted, wanted_full}
 
 -- a failed search is one for the world with the universal role too
 pub failure_is_right : FailureIsRight
@@ -48,6 +49,13 @@ standing_labels_differ H K P s seed n = record {
   distinct = always_distinct (with_universal H) (table_of H K) (lower H K P) n (rooted H K s) (root_narrow H K s seed) (root_holding H K s);
   within = always_within (with_universal H) (table_of H K) (lower H K P) n (rooted H K s) (root_narrow H K s seed) (root_holding H K s);
   ends = root_ends (with_universal H) (table_of H K) (lower H K P) n (rooted H K s);
+}
+
+-- where it is full
+pub full_is_right : FullIsRight
+full_is_right H K P s seed n = record {
+  wanted = full_wanted (with_universal H) (table_of H K) (lower H K P) n (rooted H K s) (root_narrow H K s seed) (root_holding H K s);
+  refused = wanted_full (with_universal H) (table_of H K) (lower H K P) n (rooted H K s) (root_narrow H K s seed) (root_holding H K s);
 }
 
 -- and its edges

@@ -15,6 +15,7 @@ pub mod Choosing
 pub mod Truth
 pub mod Pigeons
 pub mod Room
+pub mod Refusing
 pub mod Gathering
 pub mod Tables
 pub mod Tabling

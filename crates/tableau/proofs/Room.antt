@@ -362,3 +362,10 @@ module _ (H : RoleBox) (B : Table) (lower : (i : ℕ) → LowerEntry i (B.entry 
 
   pub always_within : (root : Label) → Narrow B.width root → Holding root → (k x i : ℕ) (st : List Label) → Moment H B n root k x i st → length st ≤ n
   always_within root p h k x i st m = (moment_orderly root p h k x i st m).few
+
+  -- n is within what stands and the depth, and the node at work stands
+  pub always_deep : (root : Label) → Narrow B.width root → Holding root → (k x i : ℕ) (st : List Label) → Moment H B n root k x i st → n ≤ length st + k
+  always_deep root p h k x i st m = (moment_orderly root p h k x i st m).deep
+
+  pub always_there : (root : Label) → Narrow B.width root → Holding root → (k x i : ℕ) (st : List Label) → Moment H B n root k x i st → x < length st
+  always_there root p h k x i st m = (moment_orderly root p h k x i st m).there

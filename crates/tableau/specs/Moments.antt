@@ -52,3 +52,19 @@ pub record EdgeChosen (H : RoleBox) (B : Table) (n : ℕ) (root : Label) (ls : L
   pub met : pursue H B (explore H B n depth) (slice_index_or ls x empty) (wants r s a) before ≡ stands after
   pub lasts : ls ≡ after ++ later
   pub edge : lowest ls (seed_of H B (slice_index_or ls x empty) r s a) ≡ chosen before (seed_of H B (slice_index_or ls x empty) r s a)
+
+-- One more node is wanted while all n stand: that is so at a moment, where the node at work is obliged at an entry to a
+-- successor, and no standing label contains its seed.
+pub record Crowded (H : RoleBox) (B : Table) (n : ℕ) (root : Label) : Type 0 where
+  pub depth : ℕ
+  pub node : ℕ
+  pub entry : ℕ
+  pub role : ℕ
+  pub sign : Bool
+  pub part : ℕ
+  pub standing : List Label
+  pub moment : Moment H B n root depth node entry standing
+  pub all_stand : length standing ≡ n
+  pub low : entry < B.width
+  pub obliged : obliged_at B (slice_index_or standing node empty) entry ≡ wants role sign part
+  pub unmet : any_contains standing (seed_of H B (slice_index_or standing node empty) role sign part) ≡ false

@@ -1,5 +1,5 @@
 -- What a search decides.
-use Rattle.std.specs.Prelude.{◌≡◌, ℕ, ◌^◌, ◌<◌, ◌≤◌, Bool, true, List, [], ◌++◌, length, ◌≢◌, slice_index_or}
+use Rattle.std.specs.Prelude.{◌≡◌, ℕ, ◌^◌, ◌<◌, ◌≤◌, Bool, true, List, [], ◌++◌, length, ◌⊎◌, ◌≢◌, slice_index_or}
 use Rattle.meaning.specs.Worlds.{Interpretation, holds}
 use Rattle.meaning.specs.Orders.{RoleBox}
 use Rattle.meaning.specs.Universal.{with_universal}
@@ -10,7 +10,7 @@ use Rattle.tableau.specs.Entries.{Ordered}
 use Rattle.tableau.specs.Seeds.{obliged_at, seed_of, wants}
 use Rattle.tableau.specs.Search.{Outcome, failed, full, stands, pursue, explore}
 use Rattle.tableau.specs.Found.{found, only_roles}
-use Rattle.tableau.specs.Moments.{Different, Moment, chosen, EdgeChosen}
+use Rattle.tableau.specs.Moments.{Different, Moment, Crowded, chosen, EdgeChosen}
 use Rattle.tableau.specs.Working.{table_of, width_of, rooted, seed_of_not, seed_of_one}
 
 -- the search for a world with an individual that satisfies the seed, in n nodes
@@ -80,6 +80,18 @@ pub record Orderly (H : RoleBox) (K : Book) (s : Label) (n : ℕ) : Type 0 where
 
 abbrev pub StandingLabelsDiffer : Type 0
 StandingLabelsDiffer = (H : RoleBox) (K : Book) → Opens H K → (s : Label) → Seed K s → (n : ℕ) → Orderly H K s n
+
+-- a node is wanted while all n nodes stand: the first of all where n is 0, or one more at a moment
+abbrev pub WantsNode : RoleBox → Book → Label → ℕ → Type 0
+WantsNode H K s n = (n ≡ 0) ⊎ Crowded (with_universal H) (table_of H K) n (rooted H K s)
+
+-- Full is right: the search is full exactly where a node is wanted while all n stand.
+pub record FullExactly (H : RoleBox) (K : Book) (s : Label) (n : ℕ) : Type 0 where
+  pub wanted : search_from H K s n ≡ full → WantsNode H K s n
+  pub refused : WantsNode H K s n → search_from H K s n ≡ full
+
+abbrev pub FullIsRight : Type 0
+FullIsRight = (H : RoleBox) (K : Book) → Opens H K → (s : Label) → Seed K s → (n : ℕ) → FullExactly H K s n
 
 -- The edges are those chosen: for as long as the labels stand that were left when an obligation was met, the lowest node
 -- that contains its seed is the one chosen then; and in the end every obligation of every node has been met so.

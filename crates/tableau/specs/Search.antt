@@ -55,8 +55,8 @@ module _ (H : RoleBox) (B : Table) where
   enter true sub st seed = full
   enter false sub st seed = try_each sub st (expansions B seed)
 
-  -- The search from a seed in n nodes, where the labels st stand, down to a depth. From a depth of n over no label the room
-  -- ends before the depth does, since each level has one label more standing.
+  -- The search from a seed in n nodes, where the labels st stand, down to a depth. From a depth of n over no label the depth
+  -- ends only where the room does, since each level has one label more standing: `FullIsRight` says so.
   unfoldable pub explore : ℕ → ℕ → Searcher
   explore n zero st seed = full
   explore n (suc k) st seed = enter (nat_le n (length st)) (explore n k) st seed

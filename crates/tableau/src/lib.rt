@@ -6,7 +6,7 @@ ghost use Rattle.std.specs.Prelude.{◌≡◌, ℕ, ◌<◌, ◌||◌};
 ghost use Rattle.words.specs.Sets.{has};
 ghost use Rattle.tableau.specs.Labels.{in_label, sign_at, put, put_all, joined, common, contains};
 ghost use Rattle.tableau.specs.Examples.{WorkedExamples, ExamplesOpen};
-ghost use Rattle.tableau.specs.Promises.{FailureIsRight, SuccessIsRight, RoomSuffices, SearchWithinRoom, StandingLabelsDiffer, EdgesAreThoseChosen, SearchDecides};
+ghost use Rattle.tableau.specs.Promises.{FailureIsRight, SuccessIsRight, RoomSuffices, SearchWithinRoom, StandingLabelsDiffer, FullIsRight, EdgesAreThoseChosen, SearchDecides};
 
 use meaning::Concept;
 
@@ -169,6 +169,11 @@ pub fn search_within_room()
 // At every moment of a search the labels that stand are pairwise different, and at most n.
 pub fn standing_labels_differ()
     ensures { StandingLabelsDiffer }
+{}
+
+// A search has no room exactly where n is 0, or where at a moment of it all n nodes stand and an obligation wants one more.
+pub fn full_is_right()
+    ensures { FullIsRight }
 {}
 
 // The edges that are read off the labels that stand in the end are those that the search chose.
