@@ -7,7 +7,7 @@ use Rattle.denial.specs.declared.Layer.TheVariants.{Register}
 use Rattle.meaning.specs.Books.{Sound}
 use Rattle.book.specs.Sections.{Sections, says}
 use Rattle.roles.specs.Told.{marked}
-use Rattle.roles.specs.Closure.{closure_law}
+use Rattle.roles.specs.Laws.{closure_law}
 use Rattle.roles.specs.Hierarchies.{roles_of}
 use Rattle.tableau.specs.Entries.{Ordered}
 use Rattle.tableau.specs.Working.{width_of}

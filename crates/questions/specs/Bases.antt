@@ -3,8 +3,9 @@ use Rattle.std.specs.Prelude.{ℕ, Bool, length}
 use Rattle.words.specs.Sets.{has}
 use Rattle.meaning.specs.Orders.{Lawful}
 use Rattle.roles.specs.Told.{marked}
-use Rattle.roles.specs.Closure.{closure, closure_law}
-use Rattle.roles.specs.Rows.{related, lawful_known}
+use Rattle.roles.specs.Closure.{closure}
+use Rattle.roles.specs.Rows.{related}
+use Rattle.roles.specs.Laws.{closure_law, lawful_known}
 use Rattle.questions.specs.declared.Based.{Based}
 use Rattle.questions.specs.declared.Based.TheVariants.{Closed, Told}
 

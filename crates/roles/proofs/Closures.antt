@@ -7,7 +7,8 @@ use Rattle.meaning.specs.Chains.{On}
 use Rattle.meaning.proofs.Tests.{any_some, any_from}
 use Rattle.meaning.proofs.Chains.{reach_sound, reach_complete, chain_ind}
 use Rattle.roles.specs.Told.{told, Inside}
-use Rattle.roles.specs.Closure.{closure, closure_parts, closure_from, Leads, Below, ClosureDecides}
+use Rattle.roles.specs.Closure.{closure, Leads, Below, ClosureDecides}
+use Rattle.roles.specs.Laws.{closure_parts, closure_from}
 
 -- a told inclusion is one of the pairs
 pub told_some : (pairs : List ℕ) (r s : ℕ) → told pairs r s ≡ true

@@ -5,7 +5,8 @@ ghost use Rattle.meaning.specs.Orders.{Lawful};
 ghost use Rattle.book.specs.Views.{view};
 ghost use Rattle.roles.specs.Told.{marked};
 ghost use Rattle.roles.specs.Closure.{closure, Below};
-ghost use Rattle.roles.specs.Rows.{related, lawful_known};
+ghost use Rattle.roles.specs.Rows.{related};
+ghost use Rattle.roles.specs.Laws.{lawful_known};
 
 use crate::asked;
 use crate::told::Told;

@@ -3,7 +3,8 @@ ghost use Rattle.std.specs.Prelude.{◌≡◌, ℕ, ◌<◌, ◌≤◌, ◌&&◌
 ghost use Rattle.words.specs.Sets.{has};
 ghost use Rattle.book.specs.Views.{view};
 ghost use Rattle.roles.specs.Told.{Inside, marked};
-ghost use Rattle.roles.specs.Closure.{closure, closure_law, Below};
+ghost use Rattle.roles.specs.Closure.{closure, Below};
+ghost use Rattle.roles.specs.Laws.{closure_law};
 
 use crate::reach::reach;
 use book::{Book, TRANSITIVE};

@@ -19,6 +19,10 @@ set_same (suc n) p q e =
     ap (λ v. v + cond (p n) (2 ^ n) 0) (set_same n p q (λ k h. e k (omega arith)))
     ∙ ap (λ b. set_of n q + cond b (2 ^ n) 0) (e n (omega arith))
 
+-- where a is below b, to test it changes no set
+pub set_tested : (n a b : ℕ) (p : ℕ → Bool) → a < b → set_of n (λ k. ltb a b && p k) ≡ set_of n p
+set_tested n a b p l = ap (λ t. set_of n (λ k. t && p k)) (lt-ltb a b l)
+
 -- a number below n is in the set of p where p holds of it
 pub has_set : (n k : ℕ) (p : ℕ → Bool) → k < n → has (set_of n p) k ≡ p k
 has_set n k p l = (comprehends n p).members k ∙ ap (λ b. b && p k) (lt-ltb k n l)

@@ -1,5 +1,5 @@
 // The individuals of a world in an entry of a book, entry by entry from the lowest.
-ghost use Rattle.std.specs.Prelude.{◌≡◌, ℕ, ◌+◌, ◌^◌, ◌<◌, ◌≤◌, if◌then◌else◌, slice_index};
+ghost use Rattle.std.specs.Prelude.{◌≡◌, ℕ, ◌+◌, ◌^◌, ◌<◌, ◌≤◌, ◌&&◌, if◌then◌else◌, nat_lt, slice_index};
 ghost use Rattle.words.specs.Sets.{has, set_of};
 ghost use Rattle.denial.specs.Denials.{answer, denial_report};
 ghost use Rattle.meaning.specs.declared.Concept.TheVariants.{Restriction};
@@ -56,20 +56,18 @@ fn extension<W: World>(world: &W, concept: Concept, sets: &[u64; 64]) -> u64
     }
 }
 
-// The individuals that bear the name n.
+// The individuals that bear the name n; none where n is from 64 on.
 pub fn bearers<W: World>(world: &W, n: usize) -> u64
-    requires { n < 64 }
-    ensures { result ≡ set_of (W.World.interpretation world.now).size (λ x. (W.World.interpretation world.now).bears x n) }
+    ensures { result ≡ set_of (W.World.interpretation world.now).size (λ x. nat_lt n 64 && (W.World.interpretation world.now).bears x n) }
 {
     words::collect(world.individuals(), |x| world.bears(x, n))
 }
 
-// The individuals to which the role r joins x.
-// Stays: a world, a role and an individual go together here and in `keeping`, with the clause that the individual is one of the
-// world. Each call has another role and another individual, so that a struct of them would be made at each.
+// The individuals to which the role r joins x; none where x is no individual.
+// Stays: a world, a role and an individual go together here and in `keeping`. Each call has another role and another
+// individual, so that a struct of them would be made at each.
 pub fn successors<W: World>(world: &W, r: usize, x: usize) -> u64
-    requires { x < (W.World.interpretation world.now).size }
-    ensures { result ≡ set_of (W.World.interpretation world.now).size (λ y. (W.World.interpretation world.now).joins r x y) }
+    ensures { result ≡ set_of (W.World.interpretation world.now).size (λ y. nat_lt x (W.World.interpretation world.now).size && (W.World.interpretation world.now).joins r x y) }
 {
     words::collect(world.individuals(), |y| world.joins(r, x, y))
 }

@@ -2,6 +2,7 @@ use Rattle.std.proofs.Common.{◌≡◌, ◌+◌, ◌-◌, ◌*◌, ◌<◌, len
 use Rattle.std.proofs.lemmas.List.{length-drop, length-take}
 use borrow.Rule.Slice.PartMut.{put_mid}
 use Rattle.sheet.specs.Sheets.{needed}
+use Rattle.sheet.proofs.Sets.{set_tested}
 use Rattle.drawing.specs.Drawings.{word_at, drawn_on, Drawn}
 use Rattle.drawing.proofs.Overlays.{overlaid, Written, written_more, overlaid_first, overlaid_part, overlaid_at, rows_within, word_name, word_row, length_overlaid}
 use Rattle.drawing.proofs.Sheets.{drawn_is, drawn_not, suffices, falls_short, granted_is, denied_is, drawing_right}
@@ -30,7 +31,7 @@ names-preserved g c =
     let W = g.W.World.interpretation c.args.world.now in
     let n = c.names.n in
     let few : n < 64 = omega (arith, c.names-test.true, c.names.auto.word-items, c.names.invariant.long) in
-    written_more W 1 64 n _ c.names.word-items few c.names.invariant (c.bearers.ensures ∙ sym (word_name W n few))
+    written_more W 1 64 n _ c.names.word-items few c.names.invariant (c.bearers.ensures ∙ set_tested W.size n 64 (λ x. W.bears x n) few ∙ sym (word_name W n few))
 
 -- after the names
 pub roles-init : goal.roles-init
@@ -64,8 +65,10 @@ individuals-preserved g c =
     let r = c.roles.r in
     let x = c.individuals.x in
     let few : x < m = omega (arith, c.individuals-test.true, c.individuals.auto.row-items, c.individuals.invariant.long) in
+    let known : x < W.size = omega (arith, c.individuals-m.ensures) in
     written_more W (65 + r * m) m x _ c.individuals.row-items few c.individuals.invariant
-    (c.successors.ensures ∙ sym (ap (λ n. word_at W (65 + r * n + x)) c.individuals-m.ensures ∙ word_row W r x (omega (arith, c.individuals-m.ensures))))
+    (c.successors.ensures ∙ set_tested W.size x W.size (W.joins r x) known
+    ∙ sym (ap (λ n. word_at W (65 + r * n + x)) c.individuals-m.ensures ∙ word_row W r x known))
 
 -- after the rows of a role
 pub roles-preserved : goal.roles-preserved

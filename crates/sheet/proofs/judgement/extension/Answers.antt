@@ -1,7 +1,8 @@
-use Rattle.std.proofs.Common.{ltb, get_or, sym, ap, ◌∙◌}
+use Rattle.std.proofs.Common.{ltb, get_or, sym, ap, ◌∙◌, subst}
 use Rattle.words.specs.Sets.{has, set_of}
 use Rattle.meaning.specs.Worlds.{denotes}
-use Rattle.sheet.proofs.Sets.{none_set, every_set, not_set, and_set, or_set}
+use Rattle.sheet.specs.Judgements.{Asked}
+use Rattle.sheet.proofs.Sets.{set_tested, none_set, every_set, not_set, and_set, or_set}
 use Rattle.sheet.proofs.judgement.extension.Goals as goal
 
 pub returns-in-Nothing : goal.returns-in-Nothing
@@ -16,6 +17,14 @@ returns-in-Everything g c =
     every_set W.size c.below-all.result (g.W.World.sized c.args.world.now).few c.below-all.type_inv
     (λ j. c.below-all.ensures.members j ∙ ap (λ m. ltb j m) c.individuals.ensures)
     ∙ sym (ap (λ k. set_of W.size (denotes W k (λ a. has (get_or c.args.sets.now a 0)))) c.in-Everything.is)
+
+pub returns-in-Name : goal.returns-in-Name
+returns-in-Name g c =
+    let W = g.W.World.interpretation c.args.world.now in
+    let n = c.in-Name.n in
+    c.bearers.ensures
+    ∙ set_tested W.size n 64 (λ x. W.bears x n) (subst Asked c.in-Name.is c.requires.asked)
+    ∙ sym (ap (λ k. set_of W.size (denotes W k (λ a. has (get_or c.args.sets.now a 0)))) c.in-Name.is)
 
 pub returns-in-Not : goal.returns-in-Not
 returns-in-Not g c =

@@ -1,7 +1,8 @@
 use Rattle.std.proofs.Common.{◌≡◌, ℕ, length, rules, sym, subst}
 use Rattle.meaning.specs.Orders.{Lawful}
-use Rattle.roles.specs.Closure.{closure, closure_law}
+use Rattle.roles.specs.Closure.{closure}
 use Rattle.roles.specs.Rows.{related}
+use Rattle.roles.specs.Laws.{closure_law}
 use Rattle.roles.proofs.Closures.{closure_told}
 use Rattle.roles.proofs.Filling.{rows_all, lawful_like}
 use Rattle.roles.proofs.rows.Rows.closed.Goals as goal

@@ -1,6 +1,7 @@
 use Rattle.std.proofs.Common.{◌∙◌, arith}
 use Rattle.std.proofs.lemmas.Bool.Decides.{nat_tests}
-use Rattle.roles.specs.Rows.{related, lawful_known}
+use Rattle.roles.specs.Rows.{related}
+use Rattle.roles.specs.Laws.{lawful_known}
 use Rattle.roles.proofs.Filling.{lawful_out}
 use Rattle.roles.proofs.rows.RowsOrder.below.Goals as goal
 use Rattle.roles.proofs.rows.RowsOrder.below.Goals.{then-r-self, else-r-self}
