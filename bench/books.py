@@ -8,7 +8,8 @@ writes FOLDER/NAME.book for each book below, and FOLDER/cases, which has a line 
     labels NAME PLUS MINUS LIMIT   the expansions of a seed, no more than LIMIT of them
     dead NAME PLUS MINUS COUNT     a seed without an expansion, which COUNT ends are tried for
     seeds NAME PLUS MINUS          the seeds of the obligations of the first expansion of a seed
-    search NAME PLUS MINUS         a search
+    search NAME PLUS MINUS         a search that stands
+    failing NAME PLUS MINUS COUNT  a search in two nodes that fails, after COUNT choices that failed
     pairs NAME COUNT               a search for "a not b" for every two of the first COUNT entries
 
 PLUS and MINUS are the words of a seed, in hex. docs/book-format.md has the bytes of a book, docs/search.md what a seed is.
@@ -153,6 +154,16 @@ def register(n):
     return book, book.root([stage[0], everything], stage[1:])
 
 
+def blocked(n):
+    """n entries `a or b` over names of their own, and an obligation that no individual can meet: each of the 2^n expansions
+    stands as node 0 until its successor finds no expansion. So a search for it fails in two nodes, after 2^n choices."""
+    book = Book()
+    r = book.role()
+    never = book.entry(SOME, r, book.entry(NOTHING))
+    ors = [book.entry(OR, book.name(), book.name()) for _ in range(n)]
+    return book, book.root([never, *ors])
+
+
 def sample(name):
     """A sample book, as bytes, with the number of its entries."""
     book = (SAMPLES / f"{name}.book").read_bytes()
@@ -179,6 +190,8 @@ def write(folder):
         put("seeds", f"propagated-{n}-{m}-{k}", propagated(n, m, k))
     for n in TAPS:
         put("search", f"register-{n}", register(n))
+    for n in (4, 8, 12):
+        put("failing", f"blocked-{n}", blocked(n), 2 ** n)
     for name in ("a", "b", "fitter"):
         book, count = sample(name)
         (folder / f"{name}.book").write_bytes(book)

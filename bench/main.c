@@ -128,6 +128,8 @@ static void heading(const char *what)
         printf("\n%-22s %4s %12s %14s\n", "no expansion of", "w", "ends tried", "ns for each");
     else if (strcmp(what, "seeds") == 0)
         printf("\n%-22s %4s %12s %14s\n", "successor seeds of", "w", "seeds", "ns for each");
+    else if (strcmp(what, "failing") == 0)
+        printf("\n%-22s %4s %12s %14s %10s %8s %14s\n", "search that fails", "w", "nodes lent", "us", "answer", "choices", "ns for each");
     else if (strcmp(what, "search") == 0)
         printf("\n%-22s %4s %12s %14s %10s %8s %14s\n", "search", "w", "nodes lent", "us", "answer", "used", "ns for each");
     else
@@ -176,6 +178,21 @@ static void time_search(const char *name, const struct book *book, uint64_t plus
         size_t made = stand < lent[i] ? stand : lent[i];
         printf("%-22s %4zu %12zu %14.2f %10s %8zu %14.1f\n", name, probe_width(book->bytes, book->len), lent[i], t / 1e3,
                ANSWERS[answer], made, t / (double)(made ? made : 1));
+    }
+}
+
+/* In the two nodes that it needs, in some more, and in as many as can be lent. */
+static void time_failing(const char *name, const struct book *book, uint64_t plus, uint64_t minus, uint64_t choices)
+{
+    static const size_t LENT[] = {2, 64, MOST_NODES};
+    for (size_t i = 0; i < sizeof LENT / sizeof *LENT; i++) {
+        struct job job = {run_search, book, plus, minus, LENT[i]};
+        uint32_t answer = probe_search(book->bytes, book->len, plus, minus, LENT[i], 1);
+        double t = timed(&job, RUNS, SHORTEST_RUN);
+        if (strcmp(ANSWERS[answer], "failed") != 0)
+            fail("the search does not fail", name);
+        printf("%-22s %4zu %12zu %14.2f %10s %8" PRIu64 " %14.1f\n", name, probe_width(book->bytes, book->len), LENT[i], t / 1e3,
+               ANSWERS[answer], choices, t / (double)choices);
     }
 }
 
@@ -239,6 +256,8 @@ int main(int argc, char **argv)
             time_seeds(name, &book, plus, minus);
         else if (strcmp(what, "search") == 0)
             time_search(name, &book, plus, minus);
+        else if (strcmp(what, "failing") == 0)
+            time_failing(name, &book, plus, minus, limit);
         else
             fail("not a case", line);
         fflush(stdout);

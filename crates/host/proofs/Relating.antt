@@ -9,15 +9,15 @@ use Rattle.roles.specs.Hierarchies.{roles_of}
 use Rattle.plan.specs.Building.{verdict}
 use Rattle.runs.specs.Setups.{setup}
 use Rattle.host.specs.declared.relation.Relation.{Relation}
-use Rattle.host.specs.Relations.{filed_by, nodes_lent}
+use Rattle.host.specs.Relations.{filed_by}
 use Rattle.host.specs.Meanings.{Means}
 use Rattle.host.proofs.Opening.{opens}
 use Rattle.host.proofs.Meaning.{relation_means}
 
-module _ (bytes : List ℕ) (first second : ℕ) where
+module _ (n : ℕ) (bytes : List ℕ) (first second : ℕ) where
   -- what is done with a book on which a register is opened
   abbrev filing : Sections → Answer Relation
-  filing s = filed_by (setup (roles_of s) (says s)) [] nodes_lent first second
+  filing s = filed_by (setup (roles_of s) (says s)) [] n first second
 
   -- What was read is what the reader of a contract read, so the relation means to him what it means here.
   pub found_means : (s : Sections) → Sound (says s) → granted s ≡ reading bytes → granted tt ≡ verdict (roles_of s) (says s)
@@ -26,5 +26,5 @@ module _ (bytes : List ℕ) (first second : ℕ) where
   found_means s sound e f (Ok x) g = λ t h.
       let same : s ≡ t = cc in
       subst (λ u. Means (roles_of u) (says u) first second x) same
-      (relation_means (roles_of s) (says s) (opens s sound f) nodes_lent first second x (sym g))
+      (relation_means (roles_of s) (says s) (opens s sound f) n first second x (sym g))
   found_means s sound e f (Err d) g = tt

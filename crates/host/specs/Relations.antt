@@ -59,22 +59,25 @@ filed_by S cs n first second =
     let two = step S one.classes (file second n) in
     and_then (given one.reply) (λ p. and_then (given two.reply) (λ q. compared_by S two.classes n p q))
 
--- how many nodes the host's call has
-abbrev pub nodes_lent : ℕ
-nodes_lent = 200
-
--- The relation of two entries of the book in the bytes, by a fresh register on the book under its own hierarchy; or the first
--- refusal, of reading, opening, filing the first entry, filing the second, the one ask and the other.
-unfoldable pub relating : List ℕ → ℕ → ℕ → Answer Relation
-relating bytes first second =
+-- The relation of two entries of the book in the bytes, by a fresh register on the book under its own hierarchy, each call in
+-- n nodes; or the first refusal, of reading, opening, filing the first entry, filing the second, the one ask and the other.
+unfoldable pub relating : ℕ → List ℕ → ℕ → ℕ → Answer Relation
+relating n bytes first second =
     and_then (reading bytes)
     (λ s. and_then (verdict (roles_of s) (says s))
-    (λ opened. filed_by (setup (roles_of s) (says s)) [] nodes_lent first second))
+    (λ opened. filed_by (setup (roles_of s) (says s)) [] n first second))
 
 -- the number of the relation, or 100 and the number of the refusal
 abbrev pub host_number : Answer Relation → ℕ
 host_number (granted x) = relation_number x
 host_number (denied r) = 100 + r.number
 
+abbrev pub relation_in : ℕ → List ℕ → ℕ → ℕ → ℕ
+relation_in n bytes first second = host_number (relating n bytes first second)
+
+-- how many nodes the host's call has
+abbrev pub nodes_lent : ℕ
+nodes_lent = 200
+
 abbrev pub relation_of : List ℕ → ℕ → ℕ → ℕ
-relation_of bytes first second = host_number (relating bytes first second)
+relation_of bytes first second = relation_in nodes_lent bytes first second

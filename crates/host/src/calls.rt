@@ -19,20 +19,22 @@ use register::Register;
 use roles::rows::Rows;
 use search::Node;
 
-// How many nodes the searches of a call have.
-const NODES: usize = 200;
-
-// The relation of two entries of the book in the bytes, or the first refusal; and what the relation means.
+// The relation of two entries of the book in the bytes, or the first refusal; and what the relation means. The searches have
+// the lent nodes.
 // Stays: the two entries are the two numbers of the C interface.
 #[tactic(auto, unfolding(crate::specs::Relations::relating))]
-pub(crate) fn relation(bytes: &[u8], first: usize, second: usize) -> Result<Relation, Denial>
-    ensures value { answer (λ x. x) denial_report result ≡ relating bytes.now first second }
+pub(crate) fn relation(
+    bytes: &[u8],
+    first: usize,
+    second: usize,
+    nodes: &mut [Node],
+) -> Result<Relation, Denial>
+    ensures value { answer (λ x. x) denial_report result ≡ relating (length nodes.old) bytes.now first second }
     ensures meaning { IfOk result (λ x. (s : Sections) → reading bytes.now ≡ granted s → Means (roles_of s) (says s) first second x) }
 {
     let book = read(bytes)?;
     let mut register = opened(&book)?;
-    let mut nodes = [Node::BLANK; NODES];
-    filed(&mut register, first, second, &mut nodes)
+    filed(&mut register, first, second, nodes)
 }
 
 // A register on the book under its own hierarchy, with class 0 alone.

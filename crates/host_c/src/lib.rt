@@ -10,13 +10,17 @@ ghost use Rattle.roles.specs.Hierarchies.{roles_of};
 ghost use Rattle.host.specs.Relations.{relation_of};
 ghost use Rattle.host.specs.Meanings.{NumberMeans};
 
+use host::register_relation_in;
+use search::Node;
+
 // How the two entries of the book stand to each other in all finite worlds that keep it: 0 where no such world holds them
 // apart; 1 where the first is strictly below the second, 2 where it is the other way round, 3 where neither is below the
-// other; and 100 and the number of the first refusal.
+// other; and 100 and the number of the first refusal. The nodes of its searches are an array of this function, on the stack.
 #[unsafe(no_mangle)]
 pub extern "C" fn register_relation(book: &[u8], first: usize, second: usize) -> u32
     ensures value { result ≡ relation_of book.now first second }
     ensures meaning { (s : Sections) → reading book.now ≡ granted s → NumberMeans (roles_of s) (says s) first second result }
 {
-    host::register_relation(book, first, second)
+    let mut nodes = [Node::BLANK; 200];
+    register_relation_in(book, first, second, &mut nodes)
 }

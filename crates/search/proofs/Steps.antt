@@ -40,6 +40,12 @@ blank_front n k nodes ys whole l b e =
     ∙ ap (λ j. get_or nodes j blank) (omega arith) ∙ b i after (omega arith))
     (cases_lt i k))
 
+-- the nodes from m on are blank in what stands from p on, too
+pub blank_behind : (p m : ℕ) (nodes : List Node) → p ≤ m → BlankFrom m nodes → BlankFrom (m - p) (drop p nodes)
+blank_behind p m nodes h b k a l =
+    let lt : p + k < length nodes = omega (arith, simp length-drop at l) in
+    get_or-drop p nodes k blank ∙ b (p + k) (omega arith) lt
+
 blank_set : (nodes : List Node) (p m : ℕ) (y : Node) → p < m → BlankFrom m nodes → BlankFrom m (set nodes p y)
 blank_set nodes p m y h b k a l =
     let ne : k ≢ p = omega arith in

@@ -3,7 +3,7 @@
 
 ghost use Rattle.std.specs.Prelude.{◌≡◌, ℕ, ◌<◌, ◌≤◌, [], length, replicate, Some, codes};
 ghost use Rattle.search.specs.Games.{Game, Bounded, Leads, explore_by, told};
-ghost use Rattle.search.specs.Nodes.{blank, labels, LowestIn, NewestIn, Go, Fail, Fit, Lacks, Retreats, Says};
+ghost use Rattle.search.specs.Nodes.{blank, labels, LowestIn, NewestIn, Go, Fail, BlankFrom, Fit, Lacks, Retreats, Says};
 
 use std::error::Error;
 use std::fmt;
@@ -71,6 +71,16 @@ pub fn wipe(nodes: &mut [Node])
     nodes.fill(Node::BLANK);
 }
 
+// Makes every node blank, where those from k on are blank already: only the first k are written.
+#[tactic(auto, using(crate::proofs::Steps::blank_front))]
+fn wipe_first(nodes: &mut [Node], k: usize)
+    requires within { k ≤ length nodes.old }
+    requires blank { BlankFrom k nodes.old }
+    ensures { nodes.new ≡ replicate (length nodes.old) blank }
+{
+    wipe(&mut nodes[..k]);
+}
+
 // The first of the nodes whose label contains the seed.
 pub fn lowest(nodes: &[Node], seed: Label) -> Option<usize>
     ensures { LowestIn (labels nodes.now) seed result }
@@ -115,18 +125,20 @@ fn lacking<S: Strategy>(strategy: &S, nodes: &mut [Node], m: usize) -> Result<Op
     Ok(None)
 }
 
-// Gives up the label of the newest waiting node: its place, its seed, and the choice word to go on from. The nodes from it
-// on are wiped before its next choice is tried; where no node of the first m waits, all of them are.
+// Gives up the label of the newest waiting node: its place, its seed, and the choice word to go on from. The tail of the slice
+// from it on is handed on to be wiped before its next choice is tried; where no node of the first m waits, the whole slice is.
+// Of either only what stands before m is written: from m on the nodes are blank.
+#[tactic(auto, using(crate::proofs::Steps::blank_behind))]
 fn retreat(nodes: &mut [Node], m: usize) -> Option<(usize, Label, u64)>
     requires { Fit nodes.old m Fail }
     ensures { (G : Game) → Bounded G → Retreats G nodes.old m nodes.new result }
 {
     let Some((p, Waiting { choice, .. })) = newest(&nodes[..m]) else {
-        wipe(nodes);
+        wipe_first(nodes, m);
         return None;
     };
     let seed = nodes[p].seed;
-    wipe(&mut nodes[p..]);
+    wipe_first(&mut nodes[p..], m - p);
     Some((p, seed, choice))
 }
 
@@ -200,7 +212,7 @@ impl Drop for Workspace<'_> {
 }
 
 // Whether a world comes of the seed, in nodes that are blank and are so again after it. Only what the search wrote is wiped.
-#[tactic(auto, using(crate::proofs::Steps::all_blank, crate::proofs::Steps::blank_front))]
+#[tactic(auto, using(crate::proofs::Steps::all_blank))]
 pub fn tried<S: Strategy>(strategy: &S, nodes: &mut [Node], seed: Label) -> Result<bool, NoRoom>
     requires { nodes.old ≡ replicate (length nodes.old) blank }
     ensures answer { result ≡ told (explore_by (S.Strategy.game strategy.now) (length nodes.old) (length nodes.old) [] seed) }
@@ -209,7 +221,7 @@ pub fn tried<S: Strategy>(strategy: &S, nodes: &mut [Node], seed: Label) -> Resu
     match run_in_blank(strategy, nodes, seed) {
         Ok(None) => Ok(false),
         Ok(Some(m)) => {
-            wipe(&mut nodes[..m]);
+            wipe_first(nodes, m);
             Ok(true)
         }
         Err(e) => {

@@ -7,11 +7,11 @@ use Rattle.search.proofs.retreat.Goals as goal
 pub returns-in_default : goal.returns-in_default
 returns-in_default c = λ G B. (
   done_fail G (length c.args.nodes.now) c.args.nodes.now c.args.m c.requires.within (newest_none c.args.nodes.now c.args.m c.requires.within c.in_default.ensures),
-  blank_all _ _ c.wipe.ensures,
+  blank_all _ _ c.wipe_first.ensures,
 )
 
 pub returns : goal.returns
 returns c = λ G B.
     went_back G B c.args.nodes.now c.args.m c.requires.within c.requires.blanks c.in-Some.p c.in-Some.field-0-1 c.in-Some.ensures
-    c.wipe-2.new.nodes
-    (c.wipe-2.ensures ∙ ap (λ n. replicate n blank) (simp (length-take, length-drop) (omega arith)))
+    c.wipe_first-2.new.nodes
+    (c.wipe_first-2.ensures ∙ ap (λ n. replicate n blank) (simp (length-take, length-drop) (omega arith)))
