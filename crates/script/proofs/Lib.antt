@@ -1,0 +1,5 @@
+pub mod Coming
+pub mod Fresh
+pub mod Naming
+pub mod Performing
+pub mod Reading
