@@ -1,5 +1,4 @@
 pub mod Coming
 pub mod Fresh
 pub mod Naming
-pub mod Performing
 pub mod Reading

@@ -11,7 +11,7 @@ use questions::Base;
 use register::Register;
 
 // A register on the book, under the hierarchy that the base names.
-pub fn open_on(book: &Book, base: Base) -> Result<Register, Denial>
+pub fn opened(book: &Book, base: Base) -> Result<Register, Denial>
     ensures { answer opened_at denial_report result ≡ opening_on (view book.now) }
 {
     Register::open(book, &base.of(book))

@@ -8,7 +8,7 @@ use crate::answer;
 use crate::calls::perform;
 use crate::failure::Failure;
 use crate::hex::{bytes_of, words_of};
-use crate::opening::open_on;
+use crate::opening::opened;
 use book::Book;
 use book::read::read;
 use denial::RecordDenial;
@@ -18,6 +18,7 @@ use lines::{denied, yes_or_no};
 use listing::listing;
 use questions::Base;
 use register::Register;
+use search::Node;
 use std::alloc::{AllocError, Global};
 
 // The bytes of the book, what reading them came to, the register, if one is open, and the words of the sheet, if one was
@@ -161,7 +162,7 @@ impl Session {
         ensures { ComesTo result (λ o. turn o (held_of self.new) ≡ opened_by (opening (held_of self.old).bytes) (held_of self.old)) }
     {
         self.register = None;
-        let register = open_on(&self.book?, base)?;
+        let register = opened(&self.book?, base)?;
         let w = register.width();
         self.register = Some(register);
         Ok(format!(in self.heap; "open {w}\n")?)
@@ -174,8 +175,15 @@ impl Session {
         let book = self.book?;
         let register = self
             .register
-            .get_or_try_insert_with(|| open_on(&book, Base::Closed))?;
-        perform(self.heap, register, &mut self.words, call)
+            .get_or_try_insert_with(|| opened(&book, Base::Closed))?;
+        let mut nodes = vec![in self.heap; Node::BLANK; call.nodes]?;
+        perform(
+            self.heap,
+            register,
+            &mut self.words,
+            call.action,
+            &mut nodes,
+        )
     }
 
     // What the call for C hosts answers.

@@ -6,7 +6,7 @@ use Rattle.roles.specs.Closure.{closure}
 use Rattle.roles.proofs.Boxes.{box_alike}
 use Rattle.questions.specs.Bases.{count_in, under_in, passing_in}
 use Rattle.script.proofs.Fresh.{opened_same}
-use Rattle.script.proofs.opening.open_on.Goals as goal
+use Rattle.script.proofs.opening.opened.Goals as goal
 
 pub returns : goal.returns
 returns c =
