@@ -29,7 +29,7 @@ bytes_in [] = Some []
 bytes_in (a ∷ []) = None
 bytes_in (a ∷ b ∷ text) = if_some (byte_of (a ∷ b ∷ [])) (λ byte. led_by byte (bytes_in text))
 
--- 1 to 16 hex digits; what they write is below 2 ^ 64
+-- 1 to 16 hex digits, which write a number below 2 ^ 64
 abbrev pub IsWord : List ℕ → Type 0
 IsWord text = (length text ≤ 16) × (list_all (λ b. is_some (digit_of b)) text ≡ true) × IsNumeral 16 text × (digits_value 16 text < 2 ^ 64)
 
@@ -38,7 +38,7 @@ abbrev pub WritesWord : List ℕ → Option ℕ → Type 0
 WritesWord text (Some w) = IsWord text × (w ≡ digits_value 16 text)
 WritesWord text None = ¬ (IsWord text)
 
--- what stands before the first colon, and what stands after it
+-- the item has a colon; what stands before the first, and what stands after it
 abbrev pub HasColon : List ℕ → Type 0
 HasColon item = position_or_len (λ b. b == 58) item < length item
 
@@ -57,24 +57,25 @@ abbrev pub NamesAs : List ℕ → Option (ℕ × ℕ) → Type 0
 NamesAs item (Some x) = Names item x.0 x.1
 NamesAs item None = (place word : ℕ) → ¬ (Names item place word)
 
--- the first item of a text, and what is left after it: white space, an item without white space, and no more of it
+-- The first item of a text, and what is left after it: white space may stand before the item, none is in it, and some stands
+-- after it unless the text ends there.
 abbrev pub Next : List ℕ → List ℕ → List ℕ → Type 0
 Next text item rest =
     (gap : List ℕ) × (text ≡ gap ++ (item ++ rest)) × (0 < length item) × NoCharPasses is_not_whitespace gap
     × NoCharPasses is_whitespace item × ((more : List ℕ) × EmptyOrStartsWithPassing is_whitespace rest more)
 
--- Writing the items of a text into so many words, of which the code holds these: each item names a word below the count, and
--- the later of two that name the same word counts. None where there is another item.
+-- What comes of the words that are held where the items of a text are written into them: each item names a word below the count,
+-- one that is not held is left out, and the later of two that name the same word counts. None where an item names no such word.
 pub data Fills (count : ℕ) : List ℕ → List ℕ → Option (List ℕ) → Type 0 where
-  ends : (words text : List ℕ) → NoCharPasses is_not_whitespace text → Fills count words text (Some words)
-  errs : (words text item rest : List ℕ) → Next text item rest → ((place word : ℕ) → place < count → ¬ (Names item place word)) → Fills count words text None
-  goes : (words text item rest : List ℕ) (place word : ℕ) (r : Option (List ℕ)) → Next text item rest → Names item place word → place < count
+  no_item : (words text : List ℕ) → NoCharPasses is_not_whitespace text → Fills count words text (Some words)
+  bad_item : (words text item rest : List ℕ) → Next text item rest → ((place word : ℕ) → place < count → ¬ (Names item place word)) → Fills count words text None
+  one_item : (words text item rest : List ℕ) (place word : ℕ) (r : Option (List ℕ)) → Next text item rest → Names item place word → place < count
       → Fills count (slice_set words place word) rest r → Fills count words text r
 
--- The words of a sheet of so many words, where the items name those that are not 0; none where they do not. No sheet needs more
--- than 4161 words, and no more are held.
+-- No sheet needs more words than this, and no more are held: the count, 64 names, and 64 rows for each of 64 roles.
 abbrev pub most_words : ℕ
 most_words = 4161
 
+-- the words of a sheet of so many words, where the items of the text name those that are not 0; none where they do not
 abbrev pub WordsIn : ℕ → List ℕ → Option (List ℕ) → Type 0
 WordsIn count text r = Fills count (replicate (min count most_words) 0) text r

@@ -32,7 +32,8 @@ pub record Opened : Type 0 where
   pub setup : Setup
   pub classes : List ℕ
 
--- the bytes of the book, the register that is open and the words of the sheet with the world, if there are these
+-- What a session holds: the bytes of the book, the register that is open, if one is, and the words of the sheet on which the world
+-- stands, if there is one.
 pub record Held : Type 0 where
   pub bytes : List ℕ
   pub register : Option Opened
@@ -97,7 +98,7 @@ WorldAnswerAfter (denied r) q w a = a ≡ denied r
 abbrev pub AskedWorld : WorldQuestion → Held → Answer (List ℕ) → Type 0
 AskedWorld q h a = WorldAnswerAfter (reading h.bytes) q h.world a
 
--- a fresh register on a book, if one is opened; the two hierarchies of a book answer alike
+-- a fresh register on a book, if one is opened; it is the same under closure rows and under told pairs, which answer alike
 abbrev pub opening_on : Sections → Answer Opened
 opening_on s = and_then (verdict (roles_of s) (says s)) (λ opened. granted (record { setup = setup (roles_of s) (says s); classes = [] }))
 
@@ -121,10 +122,10 @@ register_of h = and_then (reading h.bytes) (λ s. open_or h.register (opening_on
 abbrev pub filler : ℕ
 filler = 0x5a5a_5a5a_5a5a_5a5a
 
--- a call on a register, with what it is lent
 abbrev pub sheet_lent : ℕ → List ℕ
 sheet_lent count = replicate (min count most_words) filler
 
+-- a call on a register, with the nodes and the words that it is lent
 abbrev pub lent_call : Action → ℕ → Lent
 lent_call (File entry) nodes = file entry nodes
 lent_call (Ask a b) nodes = ask a b nodes
@@ -156,7 +157,8 @@ CalledOn (granted g) action nodes old t =
     (g' : Opened) × (t.after.bytes ≡ old.bytes) × (t.after.register ≡ Some g') × Performs g (lent_call action nodes) old.world t.outcome g' t.after.world
 CalledOn (denied r) action nodes old t = t ≡ turn (called (denied r)) old
 
--- What a call comes to, from what the session held before to what it holds then.
+-- What a call comes to, for what the session held before. A refused `file`, `ask` or `show` leaves the classes and the world as they
+-- were: so `RefusalsChangeNothing` says of each step of a register.
 abbrev pub CallComes : Call → Held → Turn → Type 0
 CallComes (Book hex) old t = t ≡ started (bytes_in hex.now) old
 CallComes (Sheet count text) old t = (words : Option (List ℕ)) × WordsIn count text.now words × (t ≡ drawn words old)

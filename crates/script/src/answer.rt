@@ -21,6 +21,7 @@ pub fn parts(heap: Global, bytes: &[u8]) -> Result<String, AllocError>
     Ok(out)
 }
 
+// The line of a part.
 // Stays: the words for the kinds are those of this answer, and nothing else writes them.
 fn add_part(out: &mut String, part: Part) -> Result<(), AllocError>
     ensures { OnOk result (string_bytes out.new ≡ string_bytes out.old ++ part_line (seen part.entry)) }
@@ -35,6 +36,7 @@ fn add_part(out: &mut String, part: Part) -> Result<(), AllocError>
     }
 }
 
+// The line of a part of the kind. No space stands at the end where the part is empty.
 fn add_line(out: &mut String, kind: &str, place: usize, bytes: &[u8]) -> Result<(), AllocError>
     ensures { OnOk result (string_bytes out.new ≡ string_bytes out.old ++ line_of_part kind.now place bytes.now) }
 {
@@ -74,7 +76,7 @@ pub fn shown(heap: Global, shown: Shown, words: &[u64], roles: usize) -> Result<
     Ok(line)
 }
 
-// The words that are not 0, each after its place.
+// Those of the words that are not 0, each after its place.
 fn add_words(out: &mut String, words: &[u64]) -> Result<(), AllocError>
     ensures { OnOk result (string_bytes out.new ≡ string_bytes out.old ++ word_items 0 words.now) }
 {
@@ -84,6 +86,7 @@ fn add_words(out: &mut String, words: &[u64]) -> Result<(), AllocError>
     Ok(())
 }
 
+// The word after its place, unless it is 0.
 fn add_word(out: &mut String, place: usize, word: u64) -> Result<(), AllocError>
     ensures { OnOk result (string_bytes out.new ≡ string_bytes out.old ++ word_item place word) }
 {
@@ -103,6 +106,7 @@ pub fn on_one_line(heap: Global, lines: &[u8]) -> Result<String, AllocError>
     Ok(line)
 }
 
+// Each byte as a character, a semicolon for a newline.
 fn add_with_semicolons(out: &mut String, lines: &[u8]) -> Result<(), AllocError>
     ensures { OnOk result (string_bytes out.new ≡ string_bytes out.old ++ with_semicolons lines.now) }
 {

@@ -51,6 +51,7 @@ pub fn words_of(heap: Global, count: usize, named: &str) -> Result<Vec<u64>, Fai
     Ok(words)
 }
 
+// The place and the word that an item names.
 fn item_of(item: &str) -> Option<(usize, u64)>
     ensures { NamesAs item.now result }
 {
@@ -68,6 +69,7 @@ fn word_of(text: &str) -> Option<u64>
     u64::from_str_radix(text, 16).ok()
 }
 
+// Whether each byte is a hex digit.
 fn all_digits(text: &str) -> bool
     ensures { result ≡ list_all (λ b. is_some (digit_of b)) text.now }
 {
