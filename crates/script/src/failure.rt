@@ -1,5 +1,5 @@
 // Why a line of a script has no answer of its own.
-ghost use Rattle.std.specs.Prelude.{◌≡◌};
+ghost use Rattle.std.specs.Prelude.{◌≡◌, alloc_error};
 ghost use Rattle.denial.specs.Denials.{record_report, denial_report};
 ghost use Rattle.script.specs.declared.failure.Failure.TheVariants.{BadLine, Denied, OutOfMemory};
 
@@ -49,6 +49,8 @@ impl From<AllocError> for Failure {
 }
 
 impl<T: Drop> From<AllocFailed<T>> for Failure {
+    ghost from_gives = { λ _ r. r ≡ OutOfMemory alloc_error };
+
     fn from(failed: AllocFailed<T>) -> Failure {
         Failure::OutOfMemory(failed.into())
     }

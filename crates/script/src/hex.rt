@@ -1,6 +1,9 @@
 // Bytes and words that a script gives in hex.
-ghost use Rattle.std.specs.Prelude.{◌≡◌, ◌<◌, IfSome};
+ghost use Rattle.std.specs.Prelude.{◌≡◌, ◌<◌, ℕ, List, true, Some, None, Option, IfSome, is_some, vec_items};
+ghost use Rattle.std.specs.List.{list_all};
 ghost use Rattle.script.specs.Digits.{digit_of};
+ghost use Rattle.script.specs.Hexes.{byte_of, bytes_in, WritesWord, NamesAs, WordsIn};
+ghost use Rattle.script.specs.Outcomes.{Gives};
 
 use crate::failure::Failure;
 use grammar::number;
@@ -11,7 +14,9 @@ use std::alloc::Global;
 pub const WORDS: usize = ROWS + 64 * 64;
 
 // The bytes that a text gives in hex, two digits each.
-pub fn bytes_of(heap: Global, hex: &str) -> Result<Vec<u8>, Failure> {
+pub fn bytes_of(heap: Global, hex: &str) -> Result<Vec<u8>, Failure>
+    ensures { Gives vec_items result (λ r. r ≡ bytes_in hex.now) }
+{
     let mut bytes = Vec::new(heap);
     for pair in hex.as_bytes().chunks(2) {
         bytes.push(byte_of(pair).ok_or(Failure::BadLine)?)?;
@@ -20,7 +25,9 @@ pub fn bytes_of(heap: Global, hex: &str) -> Result<Vec<u8>, Failure> {
 }
 
 // The byte that two digits write.
-fn byte_of(digits: &[u8]) -> Option<u8> {
+fn byte_of(digits: &[u8]) -> Option<u8>
+    ensures { result ≡ byte_of digits.now }
+{
     let [high, low] = digits else {
         return None;
     };
@@ -28,7 +35,9 @@ fn byte_of(digits: &[u8]) -> Option<u8> {
 }
 
 // So many words, of which those named by a place, a colon and hex digits are not 0.
-pub fn words_of(heap: Global, count: usize, named: &str) -> Result<Vec<u64>, Failure> {
+pub fn words_of(heap: Global, count: usize, named: &str) -> Result<Vec<u64>, Failure>
+    ensures { Gives vec_items result (WordsIn count named.now) }
+{
     let mut words = vec![in heap; 0u64; count.min(WORDS)]?;
     for item in named.split_whitespace() {
         let (place, word) = item_of(item).ok_or(Failure::BadLine)?;
@@ -42,17 +51,29 @@ pub fn words_of(heap: Global, count: usize, named: &str) -> Result<Vec<u64>, Fai
     Ok(words)
 }
 
-fn item_of(item: &str) -> Option<(usize, u64)> {
+// The place and the word that an item names.
+fn item_of(item: &str) -> Option<(usize, u64)>
+    ensures { NamesAs item.now result }
+{
     let (place, word) = item.split_once(':')?;
     Some((number(place)?, word_of(word)?))
 }
 
 // The word that 1 to 16 hex digits write.
-fn word_of(text: &str) -> Option<u64> {
-    if text.len() > 16 || text.bytes().any(|b| digit(b).is_none()) {
+fn word_of(text: &str) -> Option<u64>
+    ensures { WritesWord text.now result }
+{
+    if text.len() > 16 || !all_digits(text) {
         return None;
     }
     u64::from_str_radix(text, 16).ok()
+}
+
+// Whether each byte is a hex digit.
+fn all_digits(text: &str) -> bool
+    ensures { result ≡ list_all (λ b. is_some (digit_of b)) text.now }
+{
+    text.bytes().all(|b| digit(b).is_some())
 }
 
 // The number that a hex digit stands for.

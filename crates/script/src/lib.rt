@@ -2,8 +2,10 @@
 #![tactic(auto)]
 
 mod answer;
+mod calls;
 mod failure;
 mod hex;
+mod opening;
 mod session;
 
 pub use session::Session;

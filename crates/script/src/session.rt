@@ -1,11 +1,18 @@
 // A session: the book, the register opened on it, and the world drawn for it.
+ghost use Rattle.std.specs.Prelude.{◌≡◌, vec_items};
+ghost use Rattle.denial.specs.Denials.{answer, record_report};
+ghost use Rattle.book.specs.Reading.{reading};
+ghost use Rattle.book.specs.Views.{view};
+
 use crate::answer;
+use crate::calls::perform;
 use crate::failure::Failure;
-use crate::hex::{WORDS, bytes_of, words_of};
+use crate::hex::{bytes_of, words_of};
+use crate::opening::opened;
 use book::Book;
 use book::read::read;
-use denial::{Denial, RecordDenial};
-use grammar::{Action, BookQuestion, Call, NoCall, RegisterCall, WorldQuestion};
+use denial::RecordDenial;
+use grammar::{BookQuestion, Call, NoCall, RegisterCall, WorldQuestion};
 use host::register_relation;
 use lines::{denied, yes_or_no};
 use listing::listing;
@@ -13,9 +20,6 @@ use questions::Base;
 use register::Register;
 use search::Node;
 use std::alloc::{AllocError, Global};
-
-// What the words of a sheet hold before a world is shown on it.
-const FILLER: u64 = 0x5a5a_5a5a_5a5a_5a5a;
 
 // The bytes of the book, what reading them came to, the register, if one is open, and the words of the sheet, if one was
 // drawn or shown.
@@ -26,11 +30,24 @@ pub struct Session {
     book: Result<Book, RecordDenial>,
     register: Option<Register>,
     words: Option<Vec<u64>>,
+    ghost read: { answer view record_report book ≡ reading (vec_items bytes) },
 }
 
 impl Session {
+    ghost use Rattle.std.specs.Prelude.{◌≡◌, ℕ, List, [], Option, IfOk, string_bytes};
+    ghost use Rattle.denial.specs.Denials.{Answer, granted};
+    ghost use Rattle.host.specs.Relations.{relation_of};
+    ghost use Rattle.listing.specs.Listings.{listing_of};
+    ghost use Rattle.script.specs.Hexes.{bytes_in, WordsIn};
+    ghost use Rattle.script.specs.Lines.{relation_line, classes_line};
+    ghost use Rattle.script.specs.Outcomes.{called, ComesTo};
+    ghost use Rattle.script.specs.Sessions.{fresh, turn, started, drawn, asked_book, AskedWorld, opening, opened_by, register_of, CalledOn, LineComes, Answers};
+    ghost use Rattle.script.specs.Views.{held_of};
+
     // A session with an empty book, which is refused, and no world.
-    pub fn new(heap: Global) -> Session {
+    pub fn new(heap: Global) -> Session
+        ensures { held_of result ≡ fresh [] }
+    {
         let bytes = Vec::new(heap);
         let book = read(bytes.as_slice());
         Session {
@@ -43,7 +60,9 @@ impl Session {
     }
 
     // The answer to the call on a line, whose number is told where it is no call.
-    pub fn answer(&mut self, number: usize, line: &[u8]) -> Result<String, AllocError> {
+    pub fn answer(&mut self, number: usize, line: &[u8]) -> Result<String, AllocError>
+        ensures { IfOk result (λ s. Answers number line.now (held_of self.old) (string_bytes s) (held_of self.new)) }
+    {
         match self.answer_call(line) {
             Ok(text) => Ok(text),
             Err(Failure::BadLine) => format!(in self.heap; "bad line {number}\n"),
@@ -52,7 +71,9 @@ impl Session {
         }
     }
 
-    fn answer_call(&mut self, line: &[u8]) -> Result<String, Failure> {
+    fn answer_call(&mut self, line: &[u8]) -> Result<String, Failure>
+        ensures { ComesTo result (λ o. LineComes line.now (held_of self.old) (turn o (held_of self.new))) }
+    {
         let text = std::str::from_utf8(line).map_err(|_| NoCall)?;
         match Call::try_from(text)? {
             Call::Book(hex) => self.start(hex),
@@ -67,7 +88,9 @@ impl Session {
     }
 
     // Starts afresh with the book whose bytes are given in hex; nothing is answered.
-    fn start(&mut self, hex: &str) -> Result<String, Failure> {
+    fn start(&mut self, hex: &str) -> Result<String, Failure>
+        ensures { ComesTo result (λ o. turn o (held_of self.new) ≡ started (bytes_in hex.now) (held_of self.old)) }
+    {
         let bytes = bytes_of(self.heap, hex)?;
         self.book = read(bytes.as_slice());
         self.bytes = bytes;
@@ -77,8 +100,10 @@ impl Session {
     }
 
     // Draws a sheet, which becomes the world if it is a good one; where it is refused there is no world.
-    fn draw(&mut self, count: usize, words: &str) -> Result<String, Failure> {
-        let words = words_of(self.heap, count, words)?;
+    fn draw(&mut self, count: usize, named: &str) -> Result<String, Failure>
+        ensures { ComesTo result (λ o. (words : Option (List ℕ)) × WordsIn count named.now words × (turn o (held_of self.new) ≡ drawn words (held_of self.old))) }
+    {
+        let words = words_of(self.heap, count, named)?;
         self.words = None;
         let m = questions::drawn(self.book, words.as_slice())?;
         self.words = Some(words);
@@ -86,7 +111,9 @@ impl Session {
     }
 
     // The answer to a question to the book.
-    fn ask_book(&self, question: BookQuestion) -> Result<String, Failure> {
+    fn ask_book(&self, question: BookQuestion) -> Result<String, Failure>
+        ensures { ComesTo result (λ o. o ≡ called (asked_book question (held_of self.now).bytes)) }
+    {
         let heap = self.heap;
         let book = self.book?;
         let answer = match question {
@@ -109,7 +136,9 @@ impl Session {
     }
 
     // The answer to a question to the world on the sheet.
-    fn ask_world(&self, question: WorldQuestion) -> Result<String, Failure> {
+    fn ask_world(&self, question: WorldQuestion) -> Result<String, Failure>
+        ensures { ComesTo result (λ o. (a : Answer (List ℕ)) × AskedWorld question (held_of self.now) a × (o ≡ called a)) }
+    {
         let heap = self.heap;
         let book = self.book?;
         let Some(words) = &self.words else {
@@ -129,7 +158,9 @@ impl Session {
     }
 
     // Opens a register afresh.
-    fn open(&mut self, base: Base) -> Result<String, Failure> {
+    fn open(&mut self, base: Base) -> Result<String, Failure>
+        ensures { ComesTo result (λ o. turn o (held_of self.new) ≡ opened_by (opening (held_of self.old).bytes) (held_of self.old)) }
+    {
         self.register = None;
         let register = opened(&self.book?, base)?;
         let w = register.width();
@@ -138,44 +169,36 @@ impl Session {
     }
 
     // The answer to a call on the register; where none is open, one is opened with closure rows first.
-    fn call(&mut self, call: RegisterCall) -> Result<String, Failure> {
-        let heap = self.heap;
+    fn call(&mut self, call: RegisterCall) -> Result<String, Failure>
+        ensures { ComesTo result (λ o. CalledOn (register_of (held_of self.old)) call.action call.nodes (held_of self.old) (turn o (held_of self.new))) }
+    {
         let book = self.book?;
         let register = self
             .register
             .get_or_try_insert_with(|| opened(&book, Base::Closed))?;
-        let mut nodes = vec![in heap; Node::BLANK; call.nodes]?;
-        let answer = match call.action {
-            Action::File(entry) => {
-                let class = register.file(entry, &mut nodes)?;
-                format!(in heap; "class {class}\n")?
-            }
-            Action::Ask(a, b) => yes_or_no(heap, register.ask(a, b, &mut nodes)?)?,
-            Action::Show(a, b, count) => {
-                let mut words = vec![in heap; FILLER; count.min(WORDS)]?;
-                let shown = register.show(a, b, &mut nodes, &mut words)?;
-                let line = answer::shown(heap, shown, &words, register.role_count())?;
-                self.words = Some(words);
-                line
-            }
-        };
-        Ok(answer)
+        let mut nodes = vec![in self.heap; Node::BLANK; call.nodes]?;
+        perform(
+            self.heap,
+            register,
+            &mut self.words,
+            call.action,
+            &mut nodes,
+        )
     }
 
     // What the call for C hosts answers.
-    fn relate(&self, first: usize, second: usize) -> Result<String, Failure> {
+    fn relate(&self, first: usize, second: usize) -> Result<String, Failure>
+        ensures { ComesTo result (λ o. o ≡ called (granted (relation_line (relation_of (held_of self.now).bytes first second)))) }
+    {
         let number = register_relation(self.bytes.as_slice(), first, second);
         Ok(format!(in self.heap; "c {number}\n")?)
     }
 
     // The classes of the whole book on one line.
-    fn list(&self) -> Result<String, Failure> {
+    fn list(&self) -> Result<String, Failure>
+        ensures { ComesTo result (λ o. o ≡ called (granted (classes_line (listing_of (held_of self.now).bytes)))) }
+    {
         let lines = listing(self.heap, self.bytes.as_slice())?;
         Ok(answer::on_one_line(self.heap, lines.as_slice())?)
     }
-}
-
-// A register on the book.
-fn opened(book: &Book, base: Base) -> Result<Register, Denial> {
-    Register::open(book, &base.of(book))
 }

@@ -1,0 +1,4 @@
+pub mod Coming
+pub mod Fresh
+pub mod Naming
+pub mod Reading
