@@ -1,9 +1,9 @@
 """The register, by the program `calls` of this repository, in one process for a book that is spoken to line by line."""
 import select
 import subprocess
-import time
 
 from book import TOP
+from peers import cpu
 
 NODES = (64, 1024, 16384, 262144)
 WORDS = 65 + 64 * 64
@@ -25,11 +25,11 @@ def program(crate):
 
 
 class Session:
-    """A run of `calls`. Every call has the same time left in common; when it is over, the process is killed."""
+    """A run of `calls`. It may use `limit` seconds of processor in all; when they are over, the process is killed."""
 
     def __init__(self, command, book, limit):
         self.process = subprocess.Popen([command], stdin=subprocess.PIPE, stdout=subprocess.PIPE, stderr=subprocess.DEVNULL)
-        self.end = time.monotonic() + limit
+        self.limit = limit
         self.rest = b""
         self.say("book " + book.bytes().hex())
 
@@ -40,9 +40,10 @@ class Session:
     def call(self, line):
         self.say(line)
         while b"\n" not in self.rest:
-            left = self.end - time.monotonic()
-            if left <= 0 or not select.select([self.process.stdout], [], [], left)[0]:
-                raise OverTime(line)
+            if not select.select([self.process.stdout], [], [], 0.5)[0]:
+                if cpu(self.process.pid) > self.limit:
+                    raise OverTime(line)
+                continue
             more = self.process.stdout.read1(65536)
             if not more:
                 raise RuntimeError(f"calls ended at: {line}")

@@ -80,18 +80,21 @@ def lay_konclude(book, folder):
     return [KONCLUDE, "classification", "-w", WORKERS, "-i", "book.ofn", "-o", "answer.xml"]
 
 
-def watched(command, folder, limit):
-    """Runs a command in a folder and gives its exit status and what it wrote. It is killed and fails when it has used `limit`
-    seconds of processor, or in six times as long by the clock."""
-    with tempfile.TemporaryFile() as out:
-        process = subprocess.Popen(command, cwd=folder, stdin=subprocess.DEVNULL, stdout=out, stderr=subprocess.STDOUT)
-        end, pause = time.monotonic() + 6 * limit, 0.002
+def watched(command, folder, limit, stdin=os.devnull):
+    """Runs a command in a folder, with a file as its standard input, and gives its exit status and what it wrote. It is killed and fails
+    when it has used `limit` seconds of processor, or 30 times as long by the clock, or when it does nothing for `limit` seconds."""
+    with tempfile.TemporaryFile() as out, open(stdin, "rb") as given:
+        process = subprocess.Popen(command, cwd=folder, stdin=given, stdout=out, stderr=subprocess.STDOUT)
+        end, pause = time.monotonic() + 30 * limit, 0.002
+        moved, at = time.monotonic(), 0.0  # when it was last seen to have used more, and how much
         while process.poll() is None:
-            used = cpu(process.pid)
-            if used > limit or time.monotonic() > end or (used < 1 and time.monotonic() > end - 4 * limit):
+            used, now = cpu(process.pid), time.monotonic()
+            if used > at:
+                moved, at = now, used
+            if used > limit or now > end or now > moved + limit:
                 process.kill()
                 process.wait()
-                raise Failed("timeout" if used >= 1 else "hang", f"killed after {used:.1f} s of processor")
+                raise Failed("hang" if now > moved + limit else "timeout", f"killed after {used:.1f} s of processor")
             time.sleep(pause)
             pause = min(0.1, pause * 1.2)
         status = process.wait()
