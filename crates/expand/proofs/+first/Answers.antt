@@ -19,9 +19,11 @@ first-requires t c =
     let y = c.in-Fork.y in
     let g = c.in-Fork.growth in (
       omega (arith, c.decreases, few),
-      (omega (arith, c.requires.width, few),
-      fork_first c.args.plan.now c.in-Fork.j g.label g.ahead so.2 x.sign y.sign x.entry y.entry so.1
-          c.with.result.label c.with.result.ahead so.3 c.with.ensures.label c.with.ensures.ahead),
+      (
+        omega (arith, c.requires.width, few),
+        fork_first c.args.plan.now c.in-Fork.j g.label g.ahead so.2 x.sign y.sign x.entry y.entry so.1
+            c.with.result.label c.with.result.ahead so.3 c.with.ensures.label c.with.ensures.ahead,
+      ),
     )
 
 pub first-requires-in-Fork : goal.first-requires-in-Fork
@@ -32,9 +34,11 @@ first-requires-in-Fork t c =
     let y = c.in-Fork.y in
     let g = c.in-Fork.growth in (
       omega (arith, c.decreases, few),
-      (omega (arith, c.requires.width, few),
-      fork_second c.args.plan.now c.in-Fork.j g.label g.ahead so.2 x.sign y.sign x.entry y.entry so.1
-          c.with-in-Fork.result.label c.with-in-Fork.result.ahead so.4 c.with-in-Fork.ensures.label c.with-in-Fork.ensures.ahead),
+      (
+        omega (arith, c.requires.width, few),
+        fork_second c.args.plan.now c.in-Fork.j g.label g.ahead so.2 x.sign y.sign x.entry y.entry so.1
+            c.with-in-Fork.result.label c.with-in-Fork.result.ahead so.4 c.with-in-Fork.ensures.label c.with-in-Fork.ensures.ahead,
+      ),
     )
 
 pub returns-in-Done : goal.returns-in-Done
