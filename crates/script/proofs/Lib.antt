@@ -1,4 +1,5 @@
 pub mod Coming
 pub mod Fresh
+pub mod Histories
 pub mod Naming
 pub mod Reading

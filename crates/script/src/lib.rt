@@ -1,6 +1,8 @@
 // A script of calls on a book, one line each, and the answer to each call.
 #![tactic(auto)]
 
+ghost use Rattle.script.specs.Histories.{SessionsRun};
+
 mod answer;
 mod calls;
 mod failure;
@@ -22,3 +24,8 @@ pub fn run(rt: &HostRuntime) -> io::Result<()> {
     }
     Ok(())
 }
+
+// In every session, the calls on the register that is open are a run of a register on the book.
+pub fn sessions_run()
+    ensures { SessionsRun }
+{}
