@@ -168,6 +168,65 @@ fn chain(random: &mut Random) -> Raw {
     raw
 }
 
+/// Chains of existential restrictions by roles that are mostly below a transitive one, against value restrictions by a role
+/// that is mostly above it: what is passed on decides.
+fn passing(random: &mut Random) -> Raw {
+    let mut raw = Raw::default();
+    let roles = random.between(3, 5);
+    for r in 0..roles {
+        raw.roles.push(random.chance(if r == 1 { 90 } else { 20 }) as u8);
+    }
+    if random.chance(70) {
+        raw.pairs.push([0, 1]);
+    }
+    if random.chance(90) {
+        raw.pairs.push([1, 2]);
+    }
+    for _ in 0..random.below(3) {
+        raw.pairs.push([random.below(roles) as u8, random.below(roles) as u8]);
+    }
+    let names = random.between(1, 3);
+    for n in 0..names {
+        raw.entry(2, n, 0);
+    }
+    for n in 0..names {
+        raw.entry(3, n, 0);
+    }
+    let mut chains = Vec::new();
+    for _ in 0..random.between(1, 3) {
+        let mut last = random.below(names);
+        for _ in 0..random.between(2, 4) {
+            let role = if random.chance(85) { random.below(2) } else { random.below(roles) };
+            last = raw.entry(6, role, last);
+            chains.push(last);
+        }
+    }
+    let mut values = Vec::new();
+    for _ in 0..random.between(1, 3) {
+        let role = if random.chance(80) { 2 } else { random.below(roles) };
+        let n = random.below(names);
+        values.push(match random.below(5) {
+            0 | 1 => raw.entry(7, role, names + n),
+            2 | 3 => raw.entry(8, role, n),
+            _ => {
+                let some = raw.entry(6, role, n);
+                raw.entry(3, some, 0)
+            }
+        });
+    }
+    for _ in 0..random.between(2, 6) {
+        let (chain, value) = (random.pick(&chains), random.pick(&values));
+        let kind = random.pick(&[4, 4, 4, 5]);
+        raw.entry(kind, chain, value);
+    }
+    for _ in 0..random.below(3) {
+        let premise = random.below(2 * names);
+        let conclusion = if random.chance(50) { random.pick(&chains) } else { random.pick(&values) };
+        raw.rule(premise, conclusion);
+    }
+    raw
+}
+
 /// Two ways at each of many entries, with an end that clashes or not.
 fn choices(random: &mut Random) -> Raw {
     let mut raw = Raw::default();
@@ -219,7 +278,7 @@ pub fn good(random: &mut Random) -> (Raw, &'static str) {
     let exists = random.pick(&[30, 50, 70]);
     let transitive = random.pick(&[10, 40, 70]);
     let (mut raw, name) = match random.below(100) {
-        0..=14 => {
+        0..=10 => {
             let sizes = Sizes {
                 roles: random.below(3),
                 transitive,
@@ -232,6 +291,7 @@ pub fn good(random: &mut Random) -> (Raw, &'static str) {
             };
             (random_raw(random, &sizes), "tiny")
         }
+        11..=14 => (passing(random), "passing"),
         15..=34 => {
             let sizes = Sizes {
                 roles: random.between(1, 4),
@@ -258,7 +318,8 @@ pub fn good(random: &mut Random) -> (Raw, &'static str) {
             };
             (random_raw(random, &sizes), "middle")
         }
-        50..=69 => (full(random, restrictions, exists), "full"),
+        50..=64 => (full(random, restrictions, exists), "full"),
+        65..=69 => (passing(random), "passing"),
         70..=75 => (shift(random), "shift"),
         76..=82 => (chain(random), "chain"),
         83..=86 => (choices(random), "choices"),
