@@ -4,7 +4,7 @@ use crate::book::read;
 use crate::random::Random;
 use crate::raw::Raw;
 use crate::roles::Hierarchy;
-use crate::search::Plan;
+use crate::search::{Label, Meter, Plan};
 
 fn free_name(raw: &Raw, random: &mut Random) -> Option<usize> {
     let free: Vec<usize> = (0..64).filter(|&n| !raw.concepts.iter().any(|c| c[0] == 2 && c[1] as usize == n)).collect();
@@ -135,6 +135,55 @@ fn shift(random: &mut Random) -> Raw {
         raw.rules.remove(at);
     }
     raw
+}
+
+/// Like `shift`, with any feedback of three bits, and entry 0 needing just 64, 65, 200 or 201 nodes, where that can be found.
+fn edge(random: &mut Random) -> Raw {
+    let wanted = random.pick(&[64, 65, 200, 201]);
+    let mut raw = Raw::default();
+    for _ in 0..1500 {
+        raw = Raw::default();
+        let bits = if wanted < 100 { random.between(7, 8) } else { 8 };
+        raw.roles = vec![0];
+        let names: Vec<usize> = (0..bits).map(|n| raw.entry(2, n, 0)).collect();
+        let every: Vec<usize> = names.iter().map(|&n| raw.entry(7, 0, n)).collect();
+        let some: Vec<usize> = names.iter().map(|&n| raw.entry(6, 0, n)).collect();
+        for i in 0..bits - 1 {
+            raw.rule(names[i], every[i + 1]);
+            raw.rule(some[i + 1], names[i]);
+        }
+        let mut fed = names[bits - 1];
+        for _ in 0..random.between(1, 2) {
+            let b = random.pick(&names[..bits - 1]);
+            let (not_fed, not_b) = (raw.entry(3, fed, 0), raw.entry(3, b, 0));
+            fed = match random.below(4) {
+                0 => raw.entry(4, fed, not_b),
+                1 => raw.entry(5, not_fed, b),
+                _ => {
+                    let (one, other) = (raw.entry(4, fed, not_b), raw.entry(4, not_fed, b));
+                    raw.entry(5, one, other)
+                }
+            };
+        }
+        raw.rule(fed, every[0]);
+        raw.rule(some[0], fed);
+        let everything = raw.entry(1, 0, 0);
+        let onward = raw.entry(6, 0, everything);
+        raw.rule(everything, onward);
+        if needed(&raw) == Some(wanted) {
+            break;
+        }
+    }
+    raw
+}
+
+/// How many nodes the search for entry 0 needs.
+fn needed(raw: &Raw) -> Option<usize> {
+    let book = read(&raw.bytes()).ok()?;
+    let plan = Plan::new(&book, &Hierarchy::of_book(&book)).ok()?;
+    let mut meter = Meter { left: 5_000, peak: 0 };
+    plan.search(Label::EMPTY.with(0, true), 1000, &mut meter).ok()?;
+    Some(meter.peak)
 }
 
 /// A chain of names, each calling for the next, and now and then an end that fails.
@@ -320,7 +369,8 @@ pub fn good(random: &mut Random) -> (Raw, &'static str) {
         }
         50..=64 => (full(random, restrictions, exists), "full"),
         65..=69 => (passing(random), "passing"),
-        70..=75 => (shift(random), "shift"),
+        70 => (edge(random), "edge"),
+        71..=75 => (shift(random), "shift"),
         76..=82 => (chain(random), "chain"),
         83..=86 => (choices(random), "choices"),
         87..=89 => (many(random), "many classes"),

@@ -22,7 +22,7 @@ pub fn script(seed: u64, index: u64, limit: u64) -> Result<Script, String> {
     let mut random = Random::new(seed, index);
     let (bytes, kind) = any_book(&mut random);
     let mut maker = Maker { random, session: Session::new(limit), lines: Vec::new() };
-    match maker.make(&bytes) {
+    match maker.make(&bytes, &kind) {
         Ok(()) => Ok(Script { kind, lines: maker.lines }),
         Err(GaveUp) => Err(kind),
     }
@@ -47,7 +47,7 @@ impl Maker {
         }
     }
 
-    fn make(&mut self, bytes: &[u8]) -> Result<(), GaveUp> {
+    fn make(&mut self, bytes: &[u8], kind: &str) -> Result<(), GaveUp> {
         if self.random.chance(1) {
             // Mostly answered on the book before, or on none.
             self.line("read")?;
@@ -65,7 +65,19 @@ impl Maker {
         for _ in 0..calls {
             self.any_call()?;
         }
-        if self.random.chance(if good { 60 } else { 25 }) {
+        if kind == "shift" {
+            // Worlds of more than 64 individuals, or nearly.
+            for _ in 0..4 {
+                let (a, b, words) = (self.class(), self.class(), self.random.pick(&[0, 65, 100, 4161]));
+                self.line(format!("show {a} {b} 4096 {words}"))?;
+            }
+        }
+        if kind == "edge" {
+            let other = self.entry();
+            self.line("c 0 0")?;
+            self.line(format!("c 0 {other}"))?;
+        }
+        if kind == "edge" || self.random.chance(if good { 60 } else { 25 }) {
             self.line("classes")?;
         }
         Ok(())
@@ -232,7 +244,12 @@ impl Maker {
         match self.random.below(14) {
             0 => length = needed + self.random.below(5000),
             1 => length = needed - 1,
-            2 => length = self.random.below(needed),
+            2 => {
+                length = self.random.below(needed);
+                if self.random.chance(50) {
+                    words.push((1 + self.random.below(2), u64::MAX));
+                }
+            }
             3 => words[0].1 = self.random.pick(&[0, 65, 64, u64::MAX, 1 << 32]),
             4 | 5 if world.size < 64 => {
                 let i = self.random.between(1, needed - 1);
