@@ -137,11 +137,11 @@ fn shift(random: &mut Random) -> Raw {
     raw
 }
 
-/// Like `shift`, with any feedback of three bits, and entry 0 needing just 64, 65, 200 or 201 nodes, where that can be found.
+/// Like `shift`, with other feedback, and entry 0 needing just 64, 65, 200 or 201 nodes, where that can be found.
 fn edge(random: &mut Random) -> Raw {
-    let wanted = random.pick(&[64, 65, 200, 201]);
+    let wanted = random.pick(&[64, 65, 200, 201, 200, 201]);
     let mut raw = Raw::default();
-    for _ in 0..1500 {
+    for _ in 0..3000 {
         raw = Raw::default();
         let bits = if wanted < 100 { random.between(7, 8) } else { 8 };
         raw.roles = vec![0];
@@ -152,19 +152,17 @@ fn edge(random: &mut Random) -> Raw {
             raw.rule(names[i], every[i + 1]);
             raw.rule(some[i + 1], names[i]);
         }
-        let mut fed = names[bits - 1];
-        for _ in 0..random.between(1, 2) {
+        let mut gate = random.pick(&names[..bits - 1]);
+        for _ in 0..random.between(1, 4) {
             let b = random.pick(&names[..bits - 1]);
-            let (not_fed, not_b) = (raw.entry(3, fed, 0), raw.entry(3, b, 0));
-            fed = match random.below(4) {
-                0 => raw.entry(4, fed, not_b),
-                1 => raw.entry(5, not_fed, b),
-                _ => {
-                    let (one, other) = (raw.entry(4, fed, not_b), raw.entry(4, not_fed, b));
-                    raw.entry(5, one, other)
-                }
-            };
+            let kind = random.pick(&[4, 5]);
+            let second = if random.chance(50) { b } else { raw.entry(3, b, 0) };
+            gate = raw.entry(kind, gate, second);
         }
+        let (not_gate, last) = (raw.entry(3, gate, 0), names[bits - 1]);
+        let not_last = raw.entry(3, last, 0);
+        let (one, other) = (raw.entry(4, gate, not_last), raw.entry(4, not_gate, last));
+        let fed = raw.entry(5, one, other);
         raw.rule(fed, every[0]);
         raw.rule(some[0], fed);
         let everything = raw.entry(1, 0, 0);
@@ -181,7 +179,7 @@ fn edge(random: &mut Random) -> Raw {
 fn needed(raw: &Raw) -> Option<usize> {
     let book = read(&raw.bytes()).ok()?;
     let plan = Plan::new(&book, &Hierarchy::of_book(&book)).ok()?;
-    let mut meter = Meter { left: 5_000, peak: 0 };
+    let mut meter = Meter { left: 50_000, peak: 0 };
     plan.search(Label::EMPTY.with(0, true), 1000, &mut meter).ok()?;
     Some(meter.peak)
 }
@@ -369,8 +367,8 @@ pub fn good(random: &mut Random) -> (Raw, &'static str) {
         }
         50..=64 => (full(random, restrictions, exists), "full"),
         65..=69 => (passing(random), "passing"),
-        70 => (edge(random), "edge"),
-        71..=75 => (shift(random), "shift"),
+        70..=71 => (edge(random), "edge"),
+        72..=75 => (shift(random), "shift"),
         76..=82 => (chain(random), "chain"),
         83..=86 => (choices(random), "choices"),
         87..=89 => (many(random), "many classes"),

@@ -68,7 +68,7 @@ impl Maker {
         if kind == "shift" {
             // Worlds of more than 64 individuals, or nearly.
             for _ in 0..4 {
-                let (a, b, words) = (self.class(), self.class(), self.random.pick(&[0, 65, 100, 4161]));
+                let ((a, b), words) = (self.two_classes(), self.random.pick(&[0, 65, 100, 4161]));
                 self.line(format!("show {a} {b} 4096 {words}"))?;
             }
         }
@@ -101,6 +101,12 @@ impl Maker {
             2 => self.random.pick(&[64, 63, 65, 255, 1 << 32, usize::MAX]),
             _ => self.random.below(count),
         }
+    }
+
+    /// Two classes, now and then one twice.
+    fn two_classes(&mut self) -> (usize, usize) {
+        let (a, b) = (self.class(), self.class());
+        if self.random.chance(8) { (a, a) } else { (a, b) }
     }
 
     fn class(&mut self) -> usize {
@@ -154,13 +160,13 @@ impl Maker {
     }
 
     fn ask(&mut self) -> Result<(), GaveUp> {
-        let (a, b) = (self.class(), self.class());
+        let (a, b) = self.two_classes();
         let n = self.nodes(|n| format!("ask {a} {b} {n}"));
         self.line(format!("ask {a} {b} {n}"))
     }
 
     fn show(&mut self) -> Result<(), GaveUp> {
-        let (a, b) = (self.class(), self.class());
+        let (a, b) = self.two_classes();
         let n = self.nodes(|n| format!("show {a} {b} {n} 5000"));
         let roles = self.session.book().map_or(0, |b| b.roles.len());
         let words = match self.random.below(10) {
