@@ -11,9 +11,9 @@ use Rattle.tableau.specs.declared.Ways.TheVariants.{One, Two}
 use Rattle.tableau.specs.Labels.{in_label, put}
 use Rattle.tableau.specs.Entries.{Table, LowerEntry}
 use Rattle.tableau.specs.Expansions.{absurd_entry, clash_at, clash, one_of, grown, taken, branch, expand, expansions}
+use Rattle.tableau.specs.Saturation.{Holds}
 use Rattle.tableau.proofs.Folding.{fold_keeps}
 use Rattle.tableau.proofs.Labelling.{put_keeps}
-use Rattle.tableau.proofs.Labelling.{Holds}
 use Rattle.expand.specs.Choices.{weight, fork, from}
 
 -- Weights.

@@ -7,8 +7,9 @@ use Rattle.tableau.specs.declared.Ways.TheVariants.{One, Two}
 use Rattle.tableau.specs.Labels.{in_label, put, joined}
 use Rattle.tableau.specs.Entries.{Table}
 use Rattle.tableau.specs.Expansions.{clash, taken, branch, expand}
+use Rattle.tableau.specs.Saturation.{In}
 use Rattle.tableau.proofs.Labelling.{put_in}
-use Rattle.tableau.proofs.Standing.{In, in_left, in_right, in_append}
+use Rattle.tableau.proofs.Standing.{in_left, in_right, in_append}
 use Rattle.tableau.proofs.Growing.{Expanded, expand_right}
 use Rattle.plan.specs.declared.Plan.{Plan}
 use Rattle.plan.specs.Meanings.{table_in}

@@ -6,8 +6,7 @@ use Rattle.tableau.specs.declared.Ways.TheVariants.{One, Two}
 use Rattle.tableau.specs.Labels.{put}
 use Rattle.tableau.specs.Entries.{Table}
 use Rattle.tableau.specs.Expansions.{clash, taken, expand}
-use Rattle.tableau.proofs.Labelling.{Holds}
-use Rattle.tableau.proofs.Standing.{In}
+use Rattle.tableau.specs.Saturation.{Holds, In}
 use Rattle.expand.specs.declared.Step.{Step}
 use Rattle.expand.specs.declared.Step.TheVariants.{Grown, Choice}
 use Rattle.expand.specs.declared.Run.{Run}

@@ -1,5 +1,5 @@
 // The calls of a register that lead to the relation of two entries.
-ghost use Rattle.std.specs.Prelude.{◌≡◌, [], length, IfOk};
+ghost use Rattle.std.specs.Prelude.{◌≡◌, [], length, replicate, IfOk};
 ghost use Rattle.denial.specs.Denials.{answer, granted, denial_report};
 ghost use Rattle.book.specs.Sections.{Sections, says};
 ghost use Rattle.book.specs.Reading.{reading};
@@ -7,6 +7,7 @@ ghost use Rattle.book.specs.Views.{view};
 ghost use Rattle.roles.specs.Hierarchies.{roles_of};
 ghost use Rattle.plan.specs.Building.{verdict};
 ghost use Rattle.runs.specs.Setups.{setup};
+ghost use Rattle.search.specs.Nodes.{blank};
 ghost use Rattle.register.specs.Registers.{setup_of, classes_of, opening};
 ghost use Rattle.host.specs.Relations.{compared_by, filed_by, relating};
 ghost use Rattle.host.specs.Meanings.{Means};
@@ -17,10 +18,10 @@ use book::read::read;
 use denial::Denial;
 use register::Register;
 use roles::rows::Rows;
-use search::Node;
+use search::{Node, Workspace};
 
 // The relation of two entries of the book in the bytes, or the first refusal; and what the relation means. The searches have
-// the lent nodes.
+// the lent nodes, and each of these is blank after it.
 // Stays: the two entries are the two numbers of the C interface.
 #[tactic(auto, unfolding(crate::specs::Relations::relating))]
 pub(crate) fn relation(
@@ -31,10 +32,12 @@ pub(crate) fn relation(
 ) -> Result<Relation, Denial>
     ensures value { answer (λ x. x) denial_report result ≡ relating (length nodes.old) bytes.now first second }
     ensures meaning { IfOk result (λ x. (s : Sections) → reading bytes.now ≡ granted s → Means (roles_of s) (says s) first second x) }
+    ensures wiped { nodes.new ≡ replicate (length nodes.old) blank }
 {
+    let workspace = Workspace(nodes);
     let book = read(bytes)?;
     let mut register = opened(&book)?;
-    filed(&mut register, first, second, nodes)
+    filed(&mut register, first, second, workspace.0)
 }
 
 // A register on the book under its own hierarchy, with class 0 alone.

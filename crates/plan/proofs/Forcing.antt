@@ -10,8 +10,8 @@ use Rattle.tableau.specs.declared.Entry.{Entry}
 use Rattle.tableau.specs.declared.Entry.TheVariants.{Plain, Inclusion, Inclusions}
 use Rattle.tableau.specs.Labels.{empty, in_label, put, joined}
 use Rattle.tableau.specs.Entries.{LowerEntry}
-use Rattle.tableau.proofs.Labelling.{in_empty, put_cases, Holds}
-use Rattle.tableau.proofs.Standing.{Saturates}
+use Rattle.tableau.specs.Saturation.{Holds, Saturates}
+use Rattle.tableau.proofs.Labelling.{in_empty, put_cases}
 use Rattle.plan.specs.declared.forced.Forced.{Forced}
 use Rattle.plan.specs.Plans.{listed_entry, is_lower}
 use Rattle.plan.proofs.Lowered.{lower_from}

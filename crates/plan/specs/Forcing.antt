@@ -5,8 +5,7 @@ use Rattle.tableau.specs.declared.Label.{Label}
 use Rattle.tableau.specs.declared.Entry.{Entry}
 use Rattle.tableau.specs.declared.Entry.TheVariants.{Plain, Inclusion, Inclusions}
 use Rattle.tableau.specs.Labels.{empty, in_label, joined}
-use Rattle.tableau.proofs.Labelling.{Holds}
-use Rattle.tableau.proofs.Standing.{Saturates}
+use Rattle.tableau.specs.Saturation.{Holds, Saturates}
 use Rattle.plan.specs.declared.forced.Forced.{Forced}
 use Rattle.plan.specs.Plans.{listed_entry}
 

@@ -17,13 +17,14 @@ use Rattle.tableau.specs.Entries.{Table, means, Meaning, Follows, Tabled}
 use Rattle.tableau.specs.Expansions.{absurd_entry, clash_at, clash, one_of, grown, taken, branch, expand, expansions}
 use Rattle.tableau.specs.Seeds.{obliges, sign_of, obliged_at, role_of, seed_of, wants}
 use Rattle.tableau.specs.Search.{failed, Searcher, reuse, pursue, meet_from, try_each, enter, explore}
+use Rattle.tableau.specs.Saturation.{In}
 use Rattle.tableau.proofs.Tests.{never, not_sign}
 use Rattle.tableau.proofs.Folding.{fold_keeps}
 use Rattle.tableau.proofs.Labelling.{in_empty, put_cases}
 use Rattle.tableau.proofs.Restrictions.{obliged, restricted, restrict}
 use Rattle.tableau.proofs.Obligations.{obliging_at}
 use Rattle.tableau.proofs.Outcomes.{then_cases, else_cases}
-use Rattle.tableau.proofs.Standing.{In, in_left, in_right}
+use Rattle.tableau.proofs.Standing.{in_left, in_right}
 use Rattle.tableau.proofs.Telling.{Restricting, seed_stays}
 
 -- the individual x is in each entry with + of the label, and outside each with -

@@ -11,10 +11,11 @@ use Rattle.tableau.specs.declared.Ways.TheVariants.{One, Two}
 use Rattle.tableau.specs.Labels.{in_label, put}
 use Rattle.tableau.specs.Entries.{Table, LowerEntry}
 use Rattle.tableau.specs.Expansions.{clash, one_of, grown, taken, branch, expand, expansions}
+use Rattle.tableau.specs.Saturation.{Holds, Saturates, In}
 use Rattle.tableau.proofs.Folding.{fold_keeps, fold_gives}
-use Rattle.tableau.proofs.Labelling.{put_in, put_keeps, put_cases, Holds}
+use Rattle.tableau.proofs.Labelling.{put_in, put_keeps, put_cases}
 use Rattle.tableau.proofs.Clashing.{one_sign}
-use Rattle.tableau.proofs.Standing.{Saturates, Saturated, In, in_append}
+use Rattle.tableau.proofs.Standing.{Saturated, in_append}
 
 -- a label that holds more is saturated for what it was saturated for
 saturates_more : (e : Entry) (s : Bool) (l m : Label) → Holds m l → Saturates e s l → Saturates e s m

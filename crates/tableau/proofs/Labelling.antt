@@ -6,6 +6,7 @@ use Rattle.words.specs.Sets.{has}
 use Rattle.words.proofs.Words.{has_or, has_and, has_none, has_single, same_set, subset_to}
 use Rattle.tableau.specs.declared.Label.{Label}
 use Rattle.tableau.specs.Labels.{empty, in_label, put, contains, any_contains, lowest}
+use Rattle.tableau.specs.Saturation.{Holds}
 
 -- nothing is in the empty label
 pub in_empty : {A : Type 0} (s : Bool) (i : ℕ) → in_label empty s i ≡ true → A
@@ -38,10 +39,6 @@ put_cases true i l true j e = ⊎_elim (λ h. inr h) (λ h. inl (refl, eqb-true 
 put_cases true i l false j e = inr e
 put_cases false i l true j e = inr e
 put_cases false i l false j e = ⊎_elim (λ h. inr h) (λ h. inl (refl, eqb-true j i h)) (or_cases (has l.minus j) (eqb j i) (sym (put_word l.minus i j) ∙ e))
-
--- the label holds what the seed holds
-abbrev pub Holds : Label → Label → Type 0
-Holds l seed = (s : Bool) (i : ℕ) → in_label seed s i ≡ true → in_label l s i ≡ true
 
 -- a label that contains a seed holds what the seed holds
 pub contains_at : (l seed : Label) → contains l seed ≡ true → Holds l seed

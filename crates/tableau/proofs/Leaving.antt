@@ -12,10 +12,11 @@ use Rattle.tableau.specs.Entries.{Table, LowerEntry}
 use Rattle.tableau.specs.Expansions.{expansions}
 use Rattle.tableau.specs.Seeds.{obliged_at, seed_of, wants}
 use Rattle.tableau.specs.Search.{stands, Searcher, reuse, pursue, meet_from, try_each, enter, explore}
+use Rattle.tableau.specs.Saturation.{Holds, In}
 use Rattle.tableau.proofs.Tests.{never}
-use Rattle.tableau.proofs.Labelling.{Holds, contains_from, any_grows, any_at}
+use Rattle.tableau.proofs.Labelling.{contains_from, any_grows, any_at}
 use Rattle.tableau.proofs.Outcomes.{then_cases, else_cases}
-use Rattle.tableau.proofs.Standing.{Saturated, Stands, In}
+use Rattle.tableau.proofs.Standing.{Saturated, Stands}
 use Rattle.tableau.proofs.Growing.{Expansion, expansions_right}
 
 -- the label is saturated, has P, and the seed of each of its obligations is contained in a label of the list

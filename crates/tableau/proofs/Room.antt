@@ -16,11 +16,12 @@ use Rattle.tableau.specs.Expansions.{clash, expansions}
 use Rattle.tableau.specs.Seeds.{sign_of, obliged_at, seed_of, wants}
 use Rattle.tableau.specs.Search.{Outcome, failed, full, stands, Searcher, reuse, pursue, meet_from, try_each, enter, explore}
 use Rattle.tableau.specs.Moments.{Different, Tried, Moment, first, next, deeper}
-use Rattle.tableau.proofs.Labelling.{in_empty, put_cases, Holds, contains_from, any_at}
+use Rattle.tableau.specs.Saturation.{Holds, In}
+use Rattle.tableau.proofs.Labelling.{in_empty, put_cases, contains_from, any_at}
 use Rattle.tableau.proofs.Clashing.{one_sign}
 use Rattle.tableau.proofs.Obligations.{obliging_at}
 use Rattle.tableau.proofs.Outcomes.{then_cases, else_cases}
-use Rattle.tableau.proofs.Standing.{In, in_right}
+use Rattle.tableau.proofs.Standing.{in_right}
 use Rattle.tableau.proofs.Growing.{Expansion, expansions_right}
 use Rattle.tableau.proofs.Telling.{seed_stays, seed_part}
 use Rattle.tableau.proofs.Choosing.{extends_length, extends_at, pursue_extends}

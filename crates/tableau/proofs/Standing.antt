@@ -1,30 +1,12 @@
 -- What is asked of labels that stand: saturated and without a clash, with every obligation met. And labels of a list.
-use Rattle.std.proofs.Common.{◌≡◌, ℕ, ◌+◌, ◌<◌, Bool, true, false, not, ◌⊎◌, List, [], ◌∷◌, ◌++◌, length, get_or, inl, inr, ⊎_elim}
+use Rattle.std.proofs.Common.{◌≡◌, ℕ, ◌<◌, Bool, true, false, ◌⊎◌, List, [], ◌∷◌, ◌++◌, length, get_or, inl, inr, ⊎_elim}
 use Rattle.meaning.specs.Orders.{RoleBox}
-use Rattle.meaning.specs.declared.Concept.TheVariants.{Nothing, Everything, Name, Not, And, Or, Restriction}
 use Rattle.tableau.specs.declared.Label.{Label}
-use Rattle.tableau.specs.declared.Entry.{Entry}
-use Rattle.tableau.specs.declared.Entry.TheVariants.{Plain, Inclusion, Inclusions}
 use Rattle.tableau.specs.Labels.{empty, in_label, any_contains}
 use Rattle.tableau.specs.Entries.{Table}
 use Rattle.tableau.specs.Expansions.{clash}
 use Rattle.tableau.specs.Seeds.{obliged_at, seed_of, wants}
-
--- what a label that holds the signed entry has to hold besides
-abbrev pub Saturates : Entry → Bool → Label → Type 0
-Saturates (Plain Nothing) s l = Unit {0}
-Saturates (Plain Everything) s l = Unit {0}
-Saturates (Plain (Name n)) s l = Unit {0}
-Saturates (Plain (Not a)) s l = in_label l (not s) a ≡ true
-Saturates (Plain (And a b)) true l = (in_label l true a ≡ true) × (in_label l true b ≡ true)
-Saturates (Plain (And a b)) false l = (in_label l false a ≡ true) ⊎ (in_label l false b ≡ true)
-Saturates (Plain (Or a b)) true l = (in_label l true a ≡ true) ⊎ (in_label l true b ≡ true)
-Saturates (Plain (Or a b)) false l = (in_label l false a ≡ true) × (in_label l false b ≡ true)
-Saturates (Plain (Restriction q r a)) s l = Unit {0}
-Saturates (Inclusion c d) true l = (in_label l false c ≡ true) ⊎ (in_label l true d ≡ true)
-Saturates (Inclusion c d) false l = Unit {0}
-Saturates (Inclusions lo n) true l = (k : ℕ) → k < n → in_label l true (lo + k) ≡ true
-Saturates (Inclusions lo n) false l = Unit {0}
+use Rattle.tableau.specs.Saturation.{Saturates, In}
 
 -- the label has no clash, and what each of its entries asks for
 pub record Saturated (B : Table) (l : Label) : Type 0 where
@@ -36,11 +18,6 @@ pub record Stands (H : RoleBox) (B : Table) (ls : List Label) : Type 0 where
   pub full : (x : ℕ) → x < length ls → Saturated B (get_or ls x empty)
   pub met : (x i r a : ℕ) (s : Bool) → x < length ls → i < B.width → obliged_at B (get_or ls x empty) i ≡ wants r s a
       → any_contains ls (seed_of H B (get_or ls x empty) r s a) ≡ true
-
--- the label is one of the list
-abbrev pub In : Label → List Label → Type 0
-In e [] = ⊥
-In e (l ∷ ls) = (l ≡ e) ⊎ In e ls
 
 -- one of two lists after another is one of the first or of the second
 pub in_left : (e : Label) (ls ms : List Label) → In e ls → In e (ls ++ ms)

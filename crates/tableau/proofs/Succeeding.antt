@@ -15,10 +15,9 @@ use Rattle.tableau.specs.Found.{found}
 use Rattle.tableau.specs.Working.{plain_of, book_entry, everywhere_entry, width_of, entry_of, table_of, rooted}
 use Rattle.tableau.specs.Promises.{Opens, Satisfies, Seed, found_world, Realised, SuccessIsRight}
 use Rattle.tableau.specs.Entries.{means, Meaning, holds_entry}
-use Rattle.tableau.proofs.Labelling.{Holds}
+use Rattle.tableau.specs.Saturation.{Holds, Saturates}
 use Rattle.tableau.proofs.Meanings.{entries_mean}
 use Rattle.tableau.proofs.Obligations.{obliging_at}
-use Rattle.tableau.proofs.Standing.{Saturates}
 use Rattle.tableau.proofs.Tables.{universal_ordered, universal_transitive, universal_top, universal_below, below_top, rule_entry_at, entry_book, entry_everywhere, rooted_book, rooted_everywhere, rooted_holds}
 use Rattle.tableau.proofs.Tabling.{lower, tabled}
 use Rattle.tableau.proofs.Agreeing.{holds_agree}

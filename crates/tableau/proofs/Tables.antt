@@ -12,7 +12,8 @@ use Rattle.tableau.specs.Folds.{gather}
 use Rattle.tableau.specs.Labels.{in_label, put}
 use Rattle.tableau.specs.Entries.{Ordered}
 use Rattle.tableau.specs.Working.{propagates_by, Propagated, propagated_by, propagated_list, nowhere, plain_of, book_entry, everywhere_entry, width_of, propagated_entry, rule_entry, entry_of, rooted}
-use Rattle.tableau.proofs.Labelling.{put_in, put_keeps, put_cases, Holds}
+use Rattle.tableau.specs.Saturation.{Holds}
+use Rattle.tableau.proofs.Labelling.{put_in, put_keeps, put_cases}
 use Rattle.tableau.proofs.Gathering.{Each, gather_each, Among, gather_among}
 
 -- the universal role over a hierarchy with a number left for it

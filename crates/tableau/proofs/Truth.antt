@@ -19,12 +19,13 @@ use Rattle.tableau.specs.Entries.{Table, LowerEntry, Ordered, means, Meaning, Fo
 use Rattle.tableau.specs.Expansions.{absurd_entry, clash}
 use Rattle.tableau.specs.Seeds.{obliges, sign_of, obliged_at, role_of, seed_of, wants}
 use Rattle.tableau.specs.Found.{is_name, leads, edge, joined, borne, found}
+use Rattle.tableau.specs.Saturation.{Holds, Saturates}
 use Rattle.tableau.proofs.Tests.{never, not_sign}
-use Rattle.tableau.proofs.Labelling.{Holds, There, lowest_there, contains_at}
+use Rattle.tableau.proofs.Labelling.{There, lowest_there, contains_at}
 use Rattle.tableau.proofs.Clashing.{one_sign, no_absurd}
 use Rattle.tableau.proofs.Obligations.{obligation_is}
 use Rattle.tableau.proofs.Restrictions.{oblige, restrict}
-use Rattle.tableau.proofs.Standing.{Saturates, Stands}
+use Rattle.tableau.proofs.Standing.{Stands}
 use Rattle.tableau.proofs.Telling.{Restricting, seed_part, seed_told, seed_travels, seed_propagates}
 
 -- a chain of steps of R is one of steps of S, if each step of R is one of S

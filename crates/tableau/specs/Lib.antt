@@ -2,6 +2,7 @@ pub mod Folds
 pub mod Labels
 pub mod Entries
 pub mod Expansions
+pub mod Saturation
 pub mod Seeds
 pub mod Search
 pub mod Found
