@@ -316,8 +316,9 @@ impl Maker {
             }
         }
         let hierarchy = self.session.book().map(Hierarchy::of_book);
-        if let Some(hierarchy) = hierarchy.filter(|_| self.random.chance(75)) {
-            close(&mut rows, &hierarchy, size);
+        if let Some(hierarchy) = hierarchy.filter(|_| self.random.chance(80)) {
+            let chains = self.random.chance(65);
+            close(&mut rows, &hierarchy, size, chains);
         }
         World { size, names, rows }
     }
@@ -408,8 +409,8 @@ impl Maker {
     }
 }
 
-/// The least rows above these that keep the inclusions and transitivity.
-fn close(rows: &mut [Vec<u64>], hierarchy: &Hierarchy, size: usize) {
+/// The least rows above these that keep the inclusions, and transitivity if asked for.
+fn close(rows: &mut [Vec<u64>], hierarchy: &Hierarchy, size: usize, chains: bool) {
     loop {
         let before = rows.to_vec();
         for r in 0..rows.len() {
@@ -420,7 +421,7 @@ fn close(rows: &mut [Vec<u64>], hierarchy: &Hierarchy, size: usize) {
                     }
                 }
             }
-            if hierarchy.transitive(r) {
+            if chains && hierarchy.transitive(r) {
                 for y in 0..size {
                     for x in 0..size {
                         if has(rows[r][x], y) {
