@@ -95,10 +95,20 @@ def alike(n):
 
 
 def dead(n):
-    """n entries `a or b`, and an entry below them all that no label can keep: 2^n ends are tried in vain."""
+    """n entries `a or b`, and an entry below them all that no label can keep: its clash is foreseen."""
     book = Book()
     a = book.name()
     never = book.entry(AND, a, book.entry(NOT, a))
+    ors = [book.entry(OR, book.name(), book.name()) for _ in range(n)]
+    return book, book.root([never, *ors])
+
+
+def doomed(n):
+    """The same, but both alternatives of the entry below clash, which is not foreseen: 2^(n + 1) ends are tried in vain."""
+    book = Book()
+    a = book.name()
+    both = book.entry(AND, a, book.entry(NOT, a))
+    never = book.entry(OR, both, both)
     ors = [book.entry(OR, book.name(), book.name()) for _ in range(n)]
     return book, book.root([never, *ors])
 
@@ -183,7 +193,8 @@ def write(folder):
     for n in (5, 10, 15):
         put("labels", f"alike-{n}", alike(n), 4096)
     for n in (4, 8, 12):
-        put("dead", f"dead-{n}", dead(n), 2 ** n)
+        put("dead", f"dead-{n}", dead(n), 1)
+        put("dead", f"doomed-{n}", doomed(n), 2 ** (n + 1))
     for n, m in ((8, 4), (16, 8), (39, 20), (53, 6), (58, 1)):
         put("seeds", f"told-{n}-{m}", told(n, m))
     for n, m, k in ((4, 4, 4), (8, 5, 6)):
