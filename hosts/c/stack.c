@@ -18,7 +18,7 @@
 #include "books.h"
 #include "register.h"
 
-enum { PAGE = 4096, STACK = 64 * 1024, PAINT = 0xA5, CHAIN = 60, TICK_MICROSECONDS = 10000, TICKS = 10 };
+enum { PAGE = 4096, STACK = 128 * 1024, PAINT = 0xA5, CHAIN = 60, TICK_MICROSECONDS = 10000, TICKS = 10 };
 
 static uint8_t *stack;
 static ucontext_t here;
