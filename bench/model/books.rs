@@ -104,30 +104,49 @@ fn add_notes(random: &mut Random, raw: &mut Raw) {
     }
 }
 
-/// Bits that move on by one at each step of role 0, with the first one the exclusive or of two: up to 2^bits - 1 nodes.
+/// Bits that move on by one at each step of role 0; what the first one becomes is for `feed` to say.
+struct Stages {
+    names: Vec<usize>,
+    every: Vec<usize>,
+    some: Vec<usize>,
+}
+
+impl Stages {
+    fn new(raw: &mut Raw, bits: usize) -> Stages {
+        let names: Vec<usize> = (0..bits).map(|n| raw.entry(2, n, 0)).collect();
+        let every: Vec<usize> = names.iter().map(|&n| raw.entry(7, 0, n)).collect();
+        let some: Vec<usize> = names.iter().map(|&n| raw.entry(6, 0, n)).collect();
+        for i in 0..bits - 1 {
+            raw.rule(names[i], every[i + 1]);
+            raw.rule(some[i + 1], names[i]);
+        }
+        Stages { names, every, some }
+    }
+
+    /// The first bit is set next exactly where `one` or `other` holds now, and there is always a next step.
+    fn feed(&self, raw: &mut Raw, one: usize, other: usize) {
+        let fed = raw.entry(5, one, other);
+        raw.rule(fed, self.every[0]);
+        raw.rule(self.some[0], fed);
+        let everything = raw.entry(1, 0, 0);
+        let onward = raw.entry(6, 0, everything);
+        raw.rule(everything, onward);
+    }
+}
+
+/// Stages fed with the exclusive or of two of them: up to 2^bits - 1 nodes.
 fn shift(random: &mut Random) -> Raw {
     let mut raw = Raw::default();
     let bits = random.pick(&[2, 3, 4, 5, 6, 6, 7, 7, 8]);
     raw.roles = vec![0];
-    let names: Vec<usize> = (0..bits).map(|n| raw.entry(2, n, 0)).collect();
-    let every: Vec<usize> = names.iter().map(|&n| raw.entry(7, 0, n)).collect();
-    let some: Vec<usize> = names.iter().map(|&n| raw.entry(6, 0, n)).collect();
-    for i in 0..bits - 1 {
-        raw.rule(names[i], every[i + 1]);
-        raw.rule(some[i + 1], names[i]);
-    }
+    let stages = Stages::new(&mut raw, bits);
     let tap = if random.chance(60) { 0 } else { random.below(bits - 1) };
-    let (a, b) = (names[bits - 1], names[tap]);
+    let (a, b) = (stages.names[bits - 1], stages.names[tap]);
     let (not_a, not_b) = (raw.entry(3, a, 0), raw.entry(3, b, 0));
     let (one, other) = (raw.entry(4, a, not_b), raw.entry(4, not_a, b));
-    let either = raw.entry(5, one, other);
-    raw.rule(either, every[0]);
-    raw.rule(some[0], either);
-    let everything = raw.entry(1, 0, 0);
-    let onward = raw.entry(6, 0, everything);
-    raw.rule(everything, onward);
+    stages.feed(&mut raw, one, other);
     if random.chance(50) {
-        let some_bit = random.pick(&names);
+        let some_bit = random.pick(&stages.names);
         raw.entry(3, some_bit, 0);
     }
     if random.chance(30) {
@@ -145,13 +164,8 @@ fn edge(random: &mut Random) -> Raw {
         raw = Raw::default();
         let bits = if wanted < 100 { random.between(7, 8) } else { 8 };
         raw.roles = vec![0];
-        let names: Vec<usize> = (0..bits).map(|n| raw.entry(2, n, 0)).collect();
-        let every: Vec<usize> = names.iter().map(|&n| raw.entry(7, 0, n)).collect();
-        let some: Vec<usize> = names.iter().map(|&n| raw.entry(6, 0, n)).collect();
-        for i in 0..bits - 1 {
-            raw.rule(names[i], every[i + 1]);
-            raw.rule(some[i + 1], names[i]);
-        }
+        let stages = Stages::new(&mut raw, bits);
+        let names = &stages.names;
         let mut gate = random.pick(&names[..bits - 1]);
         for _ in 0..random.between(1, 4) {
             let b = random.pick(&names[..bits - 1]);
@@ -162,12 +176,7 @@ fn edge(random: &mut Random) -> Raw {
         let (not_gate, last) = (raw.entry(3, gate, 0), names[bits - 1]);
         let not_last = raw.entry(3, last, 0);
         let (one, other) = (raw.entry(4, gate, not_last), raw.entry(4, not_gate, last));
-        let fed = raw.entry(5, one, other);
-        raw.rule(fed, every[0]);
-        raw.rule(some[0], fed);
-        let everything = raw.entry(1, 0, 0);
-        let onward = raw.entry(6, 0, everything);
-        raw.rule(everything, onward);
+        stages.feed(&mut raw, one, other);
         if needed(&raw) == Some(wanted) {
             break;
         }
