@@ -66,14 +66,14 @@ pub trait Order {
 
     ghost under: { Self → ℕ → ℕ → Bool };
 
-    ghost lawful: { (x : Self) → Lawful (size x) (under x) };
-
     fn count(&self) -> usize
         ensures { result ≡ size self.now };
 
     // Whether r is below s; no where either is out of range.
     fn below(&self, r: usize, s: usize) -> bool
         ensures { result ≡ under self.now r s };
+
+    ghost lawful: { (x : Self) → Lawful (size x) (under x) };
 }
 
 // An order of roles that also knows which of them are transitive.

@@ -7,4 +7,4 @@ returns g c s =
     let u = g.H.Order.under c.args.h.now c.args.r in
     c.collect.ensures.members u (λ k b l e. search rules) s
     ∙ ap (λ n. ltb s n && u s) c.count.ensures
-    ∙ bounded (g.H.Order.size c.args.h.now) u (λ j e. ((g.H.Order.lawful c.args.h.now).within c.args.r j e).1) s
+    ∙ bounded (g.H.Order.size c.args.h.now) u (λ j e. ((g.met.H.Order.lawful c.args.h.now).within c.args.r j e).1) s
