@@ -1,5 +1,5 @@
 -- Orders of roles, and their law.
-use Rattle.std.specs.Prelude.{◌≡◌, ℕ, ◌<◌, ◌≤◌, Bool, true, ◌&&◌, nat_lt}
+use Rattle.std.specs.Prelude.{◌≡◌, ℕ, ◌<◌, ◌≤◌, Bool, true}
 
 -- the relation is one on the numbers below n, reflexive and transitive
 pub record Lawful (n : ℕ) (under : ℕ → ℕ → Bool) : Type 0 where
@@ -16,4 +16,4 @@ pub record RoleBox : Type 0 where
 
 -- a hierarchy by the ghost members of its traits
 abbrev pub role_box : ℕ → (ℕ → ℕ → Bool) → (ℕ → Bool) → RoleBox
-role_box n under passing = record { count = n; below = under; transitive = λ r. nat_lt r n && passing r }
+role_box n under passing = record { count = n; below = under; transitive = passing }

@@ -1,7 +1,7 @@
 -- A universal role over an order of n roles: one more role, n, above all others.
 use Rattle.std.specs.Prelude.{◌≡◌, ℕ, ◌+◌, ◌<◌, ◌≤◌, min, Bool, true, cond, ◌&&◌, ◌||◌, ◌⊎◌, ◌==◌, nat_le, nat_lt}
 use Rattle.std.proofs.Common.{sym, ◌∙◌, inl, inr, ⊎_elim, arith}
-use Rattle.std.proofs.lemmas.Bool.{cases_lt, cases_Bool, and_parts, and_from, and_right, cond-true, cond-false, ltb-true, lt-ltb, leb-true, le-leb, eqb-true, eq-eqb, ne_eqb}
+use Rattle.std.proofs.lemmas.Bool.{cases_lt, cases_Bool, and_parts, and_from, and_right, or_cases, cond-true, cond-false, ltb-true, lt-ltb, leb-true, le-leb, eqb-true, eq-eqb, ne_eqb}
 use Rattle.meaning.specs.Orders.{Lawful, RoleBox}
 
 -- the count with the universal role; over 64 roles there is no number for one, and nothing is added
@@ -63,12 +63,19 @@ module _ (n : ℕ) (u : ℕ → ℕ → Bool) (law : Lawful n u) where
     transitive = universal_transitive;
   }
 
+-- where there is a number left for it, the transitive roles are roles again
+pub universal_inside : (n : ℕ) (p : ℕ → Bool) → n < 64 → ((r : ℕ) → p r ≡ true → r < n) → (r : ℕ) → universal_passing n p r ≡ true → r < universal_size n
+universal_inside n p few inside r e = ⊎_elim
+    (λ h. let top = eqb-true r n h in omega arith)
+    (λ h. let l = inside r h in omega arith)
+    (or_cases (r == n) (p r) e)
+
 -- what a hierarchy says with the universal role over it
 abbrev pub with_universal : RoleBox → RoleBox
 with_universal H = record {
   count = universal_size H.count;
   below = universal_under H.count H.below;
-  transitive = λ r. nat_lt r (universal_size H.count) && universal_passing H.count H.transitive r;
+  transitive = universal_passing H.count H.transitive;
 }
 
 -- what the universal role adds to an order of n roles, with u and p underneath, in the words of the subject
@@ -80,7 +87,7 @@ pub record AddsUniversal (n : ℕ) (u : ℕ → ℕ → Bool) (p : ℕ → Bool)
   -- it is below itself alone
   pub alone : (s : ℕ) → universal_under n u n s ≡ true → s ≡ n
   -- it is transitive
-  pub passing : (nat_lt n (universal_size n) && universal_passing n p n) ≡ true
+  pub passing : universal_passing n p n ≡ true
   -- all else is as underneath
   pub below : (r s : ℕ) → r < n → s < n → universal_under n u r s ≡ u r s
-  pub transitive : (r : ℕ) → r < n → (nat_lt r (universal_size n) && universal_passing n p r) ≡ (nat_lt r n && p r)
+  pub transitive : (r : ℕ) → r < n → universal_passing n p r ≡ p r

@@ -3,7 +3,7 @@
 // a world or a hierarchy. A trait's ghost members are its meaning, and code above is proved against them alone.
 #![tactic(auto)]
 
-ghost use Rattle.std.specs.Prelude.{◌≡◌, ℕ, Bool, ◌&&◌, nat_lt};
+ghost use Rattle.std.specs.Prelude.{◌≡◌, ℕ, ◌<◌, Bool, true, ◌&&◌, nat_lt};
 ghost use Rattle.meaning.specs.Worlds.{Interpretation, Sized, EntriesMean};
 ghost use Rattle.meaning.specs.Orders.{Lawful};
 ghost use Rattle.meaning.specs.Agreement.{AgreeingWorlds};
@@ -45,8 +45,6 @@ pub struct Rule {
 pub trait World {
     ghost interpretation: { Self → Interpretation };
 
-    ghost sized: { (x : Self) → Sized (interpretation x) };
-
     fn individuals(&self) -> usize
         ensures { result ≡ (interpretation self.now).size };
 
@@ -57,10 +55,12 @@ pub trait World {
     // Whether the role r joins x to y; no where x or y is no individual. Which roles there are is the interpretation's.
     fn joins(&self, r: usize, x: usize, y: usize) -> bool
         ensures { result ≡ (nat_lt x (interpretation self.now).size && (nat_lt y (interpretation self.now).size && (interpretation self.now).joins r x y)) };
+
+    ghost sized: { (x : Self) → Sized (interpretation x) };
 }
 
-// A reflexive and transitive relation on the numbers below a count of 0 to 64. The law stands in the trait itself:
-// there is no implementation without its proof.
+// A reflexive and transitive relation on the numbers below a count of 0 to 64. That it is one is a law of the trait: there
+// is no implementation without its proof.
 pub trait Order {
     ghost size: { Self → ℕ };
 
@@ -82,7 +82,9 @@ pub trait Hierarchy: Order {
 
     // Whether the role r is transitive; no where it is out of range.
     fn transitive(&self, r: usize) -> bool
-        ensures { result ≡ (nat_lt r (Self.Order.size self.now) && passing self.now r) };
+        ensures { result ≡ passing self.now r };
+
+    ghost inside: { (x : Self) (r : ℕ) → passing x r ≡ true → r < Self.Order.size x };
 }
 
 // What an entry means is what its kind says over what its parts mean.

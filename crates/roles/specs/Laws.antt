@@ -1,14 +1,15 @@
--- The proofs that the hierarchies of a book give of the law of orders. They stand here since a ghost member may cite no file of
+-- The proofs that the hierarchies of a book give of the laws of hierarchies. They stand here since a ghost member may cite no file of
 -- proofs/ of its own crate; nothing that is promised is defined here.
-use Rattle.std.specs.Prelude.{◌≡◌, ℕ, ◌<◌, ◌≤◌, Bool, true, ◌&&◌, ◌||◌, ◌⊎◌, List, ◌==◌, nat_lt, refl}
-use Rattle.std.proofs.Common.{inl, inr, ⊎_elim}
+use Rattle.std.specs.Prelude.{◌≡◌, ℕ, ◌<◌, ◌≤◌, Bool, true, ◌&&◌, ◌||◌, ◌⊎◌, List, length, ◌==◌, nat_lt, refl}
+use Rattle.std.proofs.Common.{sym, ap, ◌∙◌, inl, inr, ⊎_elim, arith}
 use Rattle.std.proofs.Math.Bool.{Bool-set}
 use Rattle.std.proofs.Math.Logic.{∥∥₁_elim}
-use Rattle.std.proofs.lemmas.Bool.{and_parts, and_from, or_cases, or_left, or_right, ltb-true, lt-ltb, leb-true, le-leb, eqb-true, eq-eqb}
+use Rattle.std.proofs.lemmas.List.{get_or_past}
+use Rattle.std.proofs.lemmas.Bool.{cases_lt, and_parts, and_from, or_cases, or_left, or_right, ltb-true, lt-ltb, leb-true, le-leb, eqb-true, eq-eqb}
 use Rattle.meaning.specs.Chains.{reach}
 use Rattle.meaning.specs.Orders.{Lawful}
 use Rattle.meaning.proofs.Chains.{reach_join}
-use Rattle.roles.specs.Told.{told}
+use Rattle.roles.specs.Told.{told, marked}
 use Rattle.roles.specs.Closure.{closure}
 
 -- what the test says, part by part
@@ -58,6 +59,13 @@ closure_law n pairs few = record {
       let b = closure_parts n pairs s t f in
       closure_from n pairs r t (record { lower = a.lower; upper = b.upper; leads = leads_join n pairs r s t a b });
 }
+
+-- past the roles there is no mark
+pub marked_inside : (roles : List ℕ) (r : ℕ) → marked roles r ≡ true → r < length roles
+marked_inside roles r e = ⊎_elim
+    (λ l. l)
+    (λ g. absurd (let z = eqb-true 0 1 (sym (ap (λ k. k == 1) (get_or_past roles r 0 g)) ∙ e) in omega arith))
+    (cases_lt r (length roles))
 
 -- the law holds where it is known to hold
 pub lawful_known : (n : ℕ) (under : ℕ → ℕ → Bool) → ∥ Lawful n under ∥₁ → Lawful n under

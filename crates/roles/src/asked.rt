@@ -1,5 +1,5 @@
 // The answers of any hierarchy, each question asked once.
-ghost use Rattle.std.specs.Prelude.{◌≡◌, ℕ, ◌<◌, ◌&&◌, nat_lt};
+ghost use Rattle.std.specs.Prelude.{◌≡◌, ℕ, ◌<◌};
 ghost use Rattle.words.specs.Sets.{has};
 ghost use Rattle.roles.specs.Rows.{related};
 
@@ -21,7 +21,7 @@ pub fn rows<H: Hierarchy>(h: &H) -> [u64; 64]
 
 // The set of the transitive roles.
 pub fn marks<H: Hierarchy>(h: &H) -> u64
-    ensures { (r : ℕ) → has result r ≡ (nat_lt r (H.Order.size h.now) && H.Hierarchy.passing h.now r) }
+    ensures { (r : ℕ) → has result r ≡ H.Hierarchy.passing h.now r }
 {
     words::collect(h.count(), |r| h.transitive(r))
 }

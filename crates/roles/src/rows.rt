@@ -1,5 +1,5 @@
 // A hierarchy as closure rows, worked out at the start.
-ghost use Rattle.std.specs.Prelude.{◌≡◌, ℕ, ◌<◌, ◌≤◌, ◌&&◌, length, Decides, nat_lt};
+ghost use Rattle.std.specs.Prelude.{◌≡◌, ℕ, ◌<◌, ◌≤◌, true, length, Decides};
 ghost use Rattle.words.specs.Sets.{has};
 ghost use Rattle.meaning.specs.Orders.{Lawful};
 ghost use Rattle.book.specs.Views.{view};
@@ -22,6 +22,7 @@ pub struct Rows {
     marks: u64,
     ghost few: { count ≤ 64 },
     ghost law: { ∥ Lawful count (related rows) ∥₁ },
+    ghost inside: { (r : ℕ) → has marks r ≡ true → r < count },
 }
 
 impl Rows {
@@ -30,7 +31,7 @@ impl Rows {
         ensures count { result.count ≡ length (view book.now).roles }
         ensures relation { (r s : ℕ) → related result.rows r s ≡ closure (length (view book.now).roles) (view book.now).pairs r s }
         ensures chains { (r s : ℕ) → Decides (related result.rows r s) (Below (length (view book.now).roles) (view book.now).pairs r s) }
-        ensures transitive { (r : ℕ) → has result.marks r ≡ (nat_lt r (length (view book.now).roles) && marked (view book.now).roles r) }
+        ensures transitive { (r : ℕ) → has result.marks r ≡ marked (view book.now).roles r }
     {
         let told = Told::new(book);
         Rows {
@@ -44,7 +45,7 @@ impl Rows {
     pub fn copied<H: Hierarchy>(h: &H) -> Rows
         ensures count { result.count ≡ H.Order.size h.now }
         ensures relation { (r s : ℕ) → related result.rows r s ≡ H.Order.under h.now r s }
-        ensures transitive { (r : ℕ) → has result.marks r ≡ (nat_lt r (H.Order.size h.now) && H.Hierarchy.passing h.now r) }
+        ensures transitive { (r : ℕ) → has result.marks r ≡ H.Hierarchy.passing h.now r }
     {
         Rows {
             count: h.count(),
@@ -59,8 +60,6 @@ impl Order for Rows {
 
     ghost under = { λ x. related x.rows };
 
-    ghost lawful = { λ x. lawful_known x.count (related x.rows) x.law };
-
     fn count(&self) -> usize {
         self.count
     }
@@ -68,6 +67,8 @@ impl Order for Rows {
     fn below(&self, r: usize, s: usize) -> bool {
         r < self.count && s < self.count && words::member(self.rows[r], s)
     }
+
+    ghost lawful = { λ x. lawful_known x.count (related x.rows) x.law };
 }
 
 impl Hierarchy for Rows {
@@ -76,4 +77,6 @@ impl Hierarchy for Rows {
     fn transitive(&self, r: usize) -> bool {
         r < self.count && words::member(self.marks, r)
     }
+
+    ghost inside = { λ x. x.inside };
 }

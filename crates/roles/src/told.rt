@@ -1,10 +1,10 @@
 // The told inclusions of a book as a hierarchy: the pairs are followed at each question.
-ghost use Rattle.std.specs.Prelude.{◌≡◌, ℕ, ◌<◌, ◌≤◌, ◌&&◌, length, Decides};
+ghost use Rattle.std.specs.Prelude.{◌≡◌, ℕ, ◌<◌, ◌≤◌, length, Decides};
 ghost use Rattle.words.specs.Sets.{has};
 ghost use Rattle.book.specs.Views.{view};
 ghost use Rattle.roles.specs.Told.{Inside, marked};
 ghost use Rattle.roles.specs.Closure.{closure, Below};
-ghost use Rattle.roles.specs.Laws.{closure_law};
+ghost use Rattle.roles.specs.Laws.{closure_law, marked_inside};
 
 use crate::reach::reach;
 use book::{Book, TRANSITIVE};
@@ -47,8 +47,6 @@ impl<'a> Order for Told<'a> {
 
     ghost under = { λ x. closure (length x.roles.now) x.pairs.now };
 
-    ghost lawful = { λ x. closure_law (length x.roles.now) x.pairs.now x.few };
-
     fn count(&self) -> usize {
         self.roles.len()
     }
@@ -60,6 +58,8 @@ impl<'a> Order for Told<'a> {
     {
         s < self.roles.len() && words::member(self.row(r), s)
     }
+
+    ghost lawful = { λ x. closure_law (length x.roles.now) x.pairs.now x.few };
 }
 
 impl<'a> Hierarchy for Told<'a> {
@@ -69,4 +69,6 @@ impl<'a> Hierarchy for Told<'a> {
     fn transitive(&self, r: usize) -> bool {
         r < self.roles.len() && self.roles[r] == TRANSITIVE
     }
+
+    ghost inside = { λ x. marked_inside x.roles.now };
 }

@@ -2,7 +2,7 @@
 ghost use Rattle.std.specs.Prelude.{◌≡◌, ◌<◌, IfOk, if◌then◌else◌, nat_lt};
 ghost use Rattle.denial.specs.Denials.{answer, granted, denied, reported, denial_report};
 ghost use Rattle.denial.specs.declared.Layer.TheVariants.{Register};
-ghost use Rattle.meaning.specs.Universal.{universal_size, universal_under, universal_passing, universal_law, AddsUniversal};
+ghost use Rattle.meaning.specs.Universal.{universal_size, universal_under, universal_passing, universal_law, universal_inside, AddsUniversal};
 
 use denial::Denial;
 use meaning::{Hierarchy, Order};
@@ -38,8 +38,6 @@ impl<'h, H: Hierarchy> Order for Universal<'h, H> {
 
     ghost under = { λ x. universal_under (H.Order.size x.base.now) (H.Order.under x.base.now) };
 
-    ghost lawful = { λ x. universal_law (H.Order.size x.base.now) (H.Order.under x.base.now) (H.Order.lawful x.base.now) };
-
     fn count(&self) -> usize {
         self.base.count() + 1
     }
@@ -52,6 +50,8 @@ impl<'h, H: Hierarchy> Order for Universal<'h, H> {
             self.base.below(r, s)
         }
     }
+
+    ghost lawful = { λ x. universal_law (H.Order.size x.base.now) (H.Order.under x.base.now) (H.Order.lawful x.base.now) };
 }
 
 impl<'h, H: Hierarchy> Hierarchy for Universal<'h, H> {
@@ -60,4 +60,6 @@ impl<'h, H: Hierarchy> Hierarchy for Universal<'h, H> {
     fn transitive(&self, r: usize) -> bool {
         r == self.base.count() || self.base.transitive(r)
     }
+
+    ghost inside = { λ x. universal_inside (H.Order.size x.base.now) (H.Hierarchy.passing x.base.now) x.room (H.Hierarchy.inside x.base.now) };
 }

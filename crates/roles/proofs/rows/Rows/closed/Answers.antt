@@ -1,8 +1,8 @@
-use Rattle.std.proofs.Common.{◌≡◌, ℕ, length, rules, sym, subst}
+use Rattle.std.proofs.Common.{◌≡◌, ℕ, length, rules, arith, sym, ◌∙◌, subst}
 use Rattle.meaning.specs.Orders.{Lawful}
 use Rattle.roles.specs.Closure.{closure}
 use Rattle.roles.specs.Rows.{related}
-use Rattle.roles.specs.Laws.{closure_law}
+use Rattle.roles.specs.Laws.{closure_law, marked_inside}
 use Rattle.roles.proofs.Closures.{closure_told}
 use Rattle.roles.proofs.Filling.{rows_all, lawful_like}
 use Rattle.roles.proofs.rows.Rows.closed.Goals as goal
@@ -21,7 +21,11 @@ invariant_of-result c =
     let n = length x.roles.now in
     let rows = related c.tabulate.result in
     let law = lawful_like n rows (closure n x.pairs.now) (rows_are c) (closure_law n x.pairs.now x.few) in
-    record { few = search rules; law = ∣ subst (λ m. Lawful m rows) (sym c.count.ensures) law ∣₁ }
+    record {
+      few = search rules;
+      law = ∣ subst (λ m. Lawful m rows) (sym c.count.ensures) law ∣₁;
+      inside = λ r e. let l = marked_inside x.roles.now r (sym (c.marks.ensures r) ∙ e) in omega (arith, c.count.ensures);
+    }
 
 pub returns : goal.returns
 returns c =
