@@ -71,8 +71,6 @@ fn roles(plan: &Plan) -> u8
 impl<'a> World for Found<'a> {
     ghost interpretation = { λ x. kept_world x.nodes.now x.roles x.names x.rows };
 
-    ghost sized = { λ x. kept_sized x.nodes.now x.roles x.names x.rows };
-
     fn individuals(&self) -> usize {
         self.nodes.len()
     }
@@ -87,4 +85,6 @@ impl<'a> World for Found<'a> {
         let m = self.individuals();
         r < self.roles as usize && x < m && y < m && words::member(self.rows[ROWS * r + x], y)
     }
+
+    ghost sized = { λ x. kept_sized x.nodes.now x.roles x.names x.rows };
 }

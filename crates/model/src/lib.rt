@@ -20,8 +20,6 @@ pub struct Planned<'p>(pub &'p Plan);
 impl<'p> Strategy for Planned<'p> {
     ghost game = { λ x. game_in x.0.now };
 
-    ghost few = { λ x. game_bounded x.0.now };
-
     fn next_label(&self, seed: Label, c: u64) -> Option<(Label, u64)> {
         expand::next_label(self.0, seed, c)
     }
@@ -29,6 +27,8 @@ impl<'p> Strategy for Planned<'p> {
     fn next_seed(&self, label: Label, k: usize) -> Option<(Label, usize)> {
         successor::next_seed(self.0, label, k)
     }
+
+    ghost few = { λ x. game_bounded x.0.now };
 }
 
 // Searches from the seed in the lent nodes. Where it stands, the labels of the first so many nodes are the standing list,

@@ -7,7 +7,7 @@ use Rattle.denial.specs.Denials.{Answer, granted, denied}
 use Rattle.denial.specs.declared.Report.{Report}
 use Rattle.meaning.specs.Books.{Book, Sound}
 use Rattle.meaning.specs.Orders.{Lawful, RoleBox, role_box}
-use Rattle.meaning.specs.Universal.{universal_size, universal_passing, with_universal}
+use Rattle.meaning.specs.Universal.{with_universal}
 use Rattle.meaning.specs.declared.Concept.TheVariants.{Nothing, Everything, Name, Not, And, Or, Restriction}
 use Rattle.meaning.specs.declared.Quantifier.{Quantifier}
 use Rattle.meaning.proofs.Tests.{all_from}
@@ -79,16 +79,11 @@ module _ (H : RoleBox) (K : Book) (P : Opens H K) where
     unfolding lowered
     all_lowered = all_from 64 (λ i. is_lower i (listed_entry es i)) (λ i l. lower_at i)
 
--- a transitive role of the universal layer, by the marks of the hierarchy under it
-pub marks_same : (n : ℕ) (passing : ℕ → Bool) (r : ℕ) → n < 64
-    → (ltb r (universal_size n) && universal_passing n passing r) ≡ (ltb r (universal_size n) && universal_passing n (λ r. ltb r n && passing r) r)
-marks_same n passing r few = grind (arith, nat_tests)
-
 -- what the tests make sure of
-pub opens_from : (n : ℕ) (under : ℕ → ℕ → Bool) (passing : ℕ → Bool) (K : Book) → Lawful n under → Sound K → n ≡ K.roles → n < 64
+pub opens_from : (n : ℕ) (under : ℕ → ℕ → Bool) (passing : ℕ → Bool) (K : Book) → Lawful n under → ((r : ℕ) → passing r ≡ true → r < n) → Sound K → n ≡ K.roles → n < 64
     → width_of (role_box n under passing) K ≤ 64 → Opens (role_box n under passing) K
-opens_from n under passing K law sound roles few narrow = record {
-  ordered = record { law = law; inside = λ r e. ltb-true r n (and_parts (ltb r n) (passing r) e).0 };
+opens_from n under passing K law inside sound roles few narrow = record {
+  ordered = record { law = law; inside = inside };
   roles = roles;
   few = few;
   sound = sound;

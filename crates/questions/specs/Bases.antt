@@ -1,11 +1,11 @@
 -- The hierarchy of a book that a base names.
-use Rattle.std.specs.Prelude.{ℕ, Bool, length}
+use Rattle.std.specs.Prelude.{◌≡◌, ℕ, ◌<◌, Bool, true, length}
 use Rattle.words.specs.Sets.{has}
 use Rattle.meaning.specs.Orders.{Lawful}
 use Rattle.roles.specs.Told.{marked}
 use Rattle.roles.specs.Closure.{closure}
 use Rattle.roles.specs.Rows.{related}
-use Rattle.roles.specs.Laws.{closure_law, lawful_known}
+use Rattle.roles.specs.Laws.{closure_law, marked_inside, lawful_known}
 use Rattle.questions.specs.declared.Based.{Based}
 use Rattle.questions.specs.declared.Based.TheVariants.{Closed, Told}
 
@@ -27,3 +27,7 @@ passing_in (Told x) = marked x.roles.now
 pub lawful_in : (x : Based) → Lawful (count_in x) (under_in x)
 lawful_in (Closed x) = lawful_known x.count (related x.rows) x.law
 lawful_in (Told x) = closure_law (length x.roles.now) x.pairs.now x.few
+
+pub inside_in : (x : Based) (r : ℕ) → passing_in x r ≡ true → r < count_in x
+inside_in (Closed x) = x.inside
+inside_in (Told x) = marked_inside x.roles.now

@@ -1,10 +1,10 @@
 -- What the calls of a script answer, from the sections of the book and the words of the sheet.
-use Rattle.std.specs.Prelude.{◌≡◌, ℕ, Bool, true, false, cond, ◌&&◌, List, [], ◌++◌, length, codes, Result, nat_lt, slice_index}
+use Rattle.std.specs.Prelude.{◌≡◌, ℕ, Bool, true, false, cond, List, [], ◌++◌, length, codes, Result, nat_lt, slice_index}
 use Rattle.denial.specs.Denials.{Answer, granted, denied, answer, and_then, reported, denial_report}
 use Rattle.denial.specs.declared.Denial.{Denial}
 use Rattle.denial.specs.declared.Layer.TheVariants.{Register}
 use Rattle.meaning.specs.Worlds.{Interpretation}
-use Rattle.meaning.specs.Universal.{universal_size, universal_under, universal_passing}
+use Rattle.meaning.specs.Universal.{universal_under, universal_passing}
 use Rattle.book.specs.Sections.{Sections, says}
 use Rattle.roles.specs.Told.{marked}
 use Rattle.roles.specs.Closure.{closure}
@@ -30,15 +30,15 @@ name_of_source h = name_of_base h.base ++ cond h.universal (codes "+universal") 
 abbrev pub over_all : ℕ → Bool → Answer Bool
 over_all n b = cond (nat_lt n 64) (granted b) (denied (reported 12 n Register))
 
--- what an order of n roles, with u and p, answers
-abbrev pub answer_of : Question → ℕ → (ℕ → ℕ → Bool) → (ℕ → Bool) → Bool
-answer_of (Below r t) n u p = u r t
-answer_of (Transitive r) n u p = nat_lt r n && p r
+-- what a hierarchy with the order u and the transitive roles p answers
+abbrev pub answer_of : Question → (ℕ → ℕ → Bool) → (ℕ → Bool) → Bool
+answer_of (Below r t) u p = u r t
+answer_of (Transitive r) u p = p r
 
 -- the same, where there may be a universal role over it
 abbrev pub answer_over : Bool → Question → ℕ → (ℕ → ℕ → Bool) → (ℕ → Bool) → Answer Bool
-answer_over false q n u p = granted (answer_of q n u p)
-answer_over true q n u p = over_all n (answer_of q (universal_size n) (universal_under n u) (universal_passing n p))
+answer_over false q n u p = granted (answer_of q u p)
+answer_over true q n u p = over_all n (answer_of q (universal_under n u) (universal_passing n p))
 
 -- closure rows and told pairs answer alike
 abbrev pub answer_from : Source → Question → Sections → Answer Bool

@@ -1,12 +1,12 @@
 // What a script asks of a book and of the world on a sheet.
 #![tactic(auto)]
 
-ghost use Rattle.std.specs.Prelude.{◌≡◌, ◌≢◌, ℕ, ◌&&◌, nat_lt, length, Some, codes, MatchResult};
+ghost use Rattle.std.specs.Prelude.{◌≡◌, ◌≢◌, ℕ, length, Some, codes, MatchResult};
 ghost use Rattle.denial.specs.Denials.{answer, and_then, record_report, denial_report};
 ghost use Rattle.book.specs.Views.{view};
 ghost use Rattle.roles.specs.Told.{marked};
 ghost use Rattle.roles.specs.Closure.{closure};
-ghost use Rattle.questions.specs.Bases.{count_in, under_in, passing_in, lawful_in};
+ghost use Rattle.questions.specs.Bases.{count_in, under_in, passing_in, lawful_in, inside_in};
 ghost use Rattle.questions.specs.Questions.{name_of_base, name_of_source, answer_of, answer_over, answer_from, below_of, transitive_of, individuals_of, judged_of, Kept};
 ghost use Rattle.questions.specs.declared.Base.{Base};
 ghost use Rattle.questions.specs.declared.Source.{Source};
@@ -49,7 +49,7 @@ impl Base {
     pub fn of<'a>(self, book: &'a Book) -> Based<'a>
         ensures count { count_in result ≡ length (view book.now).roles }
         ensures relation { (r s : ℕ) → under_in result r s ≡ closure (length (view book.now).roles) (view book.now).pairs r s }
-        ensures transitive { (r : ℕ) → (nat_lt r (count_in result) && passing_in result r) ≡ (nat_lt r (length (view book.now).roles) && marked (view book.now).roles r) }
+        ensures transitive { (r : ℕ) → passing_in result r ≡ marked (view book.now).roles r }
     {
         match self {
             Base::Closed => Based::Closed(Rows::closed(book)),
@@ -62,8 +62,6 @@ impl<'a> Order for Based<'a> {
     ghost size = { count_in };
 
     ghost under = { under_in };
-
-    ghost lawful = { lawful_in };
 
     fn count(&self) -> usize {
         match self {
@@ -78,6 +76,8 @@ impl<'a> Order for Based<'a> {
             Based::Told(told) => told.below(r, s),
         }
     }
+
+    ghost lawful = { lawful_in };
 }
 
 impl<'a> Hierarchy for Based<'a> {
@@ -89,6 +89,8 @@ impl<'a> Hierarchy for Based<'a> {
             Based::Told(told) => told.transitive(r),
         }
     }
+
+    ghost inside = { inside_in };
 }
 
 // A text that names no hierarchy.
@@ -148,7 +150,7 @@ enum Question {
 
 impl Question {
     fn put_to<H: Hierarchy>(self, h: &H) -> bool
-        ensures { result ≡ answer_of self (H.Order.size h.now) (H.Order.under h.now) (H.Hierarchy.passing h.now) }
+        ensures { result ≡ answer_of self (H.Order.under h.now) (H.Hierarchy.passing h.now) }
     {
         match self {
             Question::Below(r, s) => h.below(r, s),

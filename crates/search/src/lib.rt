@@ -14,8 +14,6 @@ use tableau::Label;
 pub trait Strategy {
     ghost game: { Self → Game };
 
-    ghost few: { (x : Self) → Bounded (game x) };
-
     // The next expansion of the seed at choice word c or after it, with the word to go on from.
     fn next_label(&self, seed: Label, c: u64) -> Option<(Label, u64)>
         ensures { Leads ((game self.now).labels_from seed) c result };
@@ -23,6 +21,8 @@ pub trait Strategy {
     // The seed of the next obligation of the label at entry k or after it, with the entry to go on from.
     fn next_seed(&self, label: Label, k: usize) -> Option<(Label, usize)>
         ensures { Leads ((game self.now).seeds_from label) k result };
+
+    ghost few: { (x : Self) → Bounded (game x) };
 }
 
 // Where a node goes on that waits for what comes of its obligations: its next expansion is tried from the choice word on,

@@ -1,5 +1,5 @@
 // Whether a world keeps a book under a hierarchy of the book's roles.
-ghost use Rattle.std.specs.Prelude.{◌≡◌, ℕ, ◌<◌, true, ◌&&◌, Decides, nat_lt, slice_index};
+ghost use Rattle.std.specs.Prelude.{◌≡◌, ℕ, ◌<◌, true, Decides, slice_index};
 ghost use Rattle.words.specs.Sets.{set_of};
 ghost use Rattle.meaning.specs.Worlds.{holds};
 ghost use Rattle.meaning.specs.Books.{Includes, Passes, Obeys, KeepsInclusions, KeepsTransitivity, KeepsRules};
@@ -43,7 +43,7 @@ fn keeps_uppers<W: World, H: Hierarchy>(world: &W, hierarchy: &H, r: usize) -> b
 }
 
 fn keeps_transitivity<W: World, H: Hierarchy>(world: &W, hierarchy: &H) -> bool
-    ensures { Decides result (KeepsTransitivity (λ r. nat_lt r (H.Order.size hierarchy.now) && H.Hierarchy.passing hierarchy.now r) (W.World.interpretation world.now)) }
+    ensures { Decides result (KeepsTransitivity (H.Hierarchy.passing hierarchy.now) (W.World.interpretation world.now)) }
 {
     (0..hierarchy.count()).all(|r| !hierarchy.transitive(r) || passes(world, r))
 }

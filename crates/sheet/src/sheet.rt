@@ -84,8 +84,6 @@ fn is_stray(word: u64, m: usize) -> bool
 impl<'a> World for Sheet<'a> {
     ghost interpretation = { λ x. sheet_world x.roles x.words.now };
 
-    ghost sized = { λ x. held_sized x.roles x.words.now };
-
     fn individuals(&self) -> usize {
         self.word(0).clamp(1, MOST) as usize
     }
@@ -98,4 +96,6 @@ impl<'a> World for Sheet<'a> {
         let m = self.individuals();
         r < self.roles as usize && x < m && y < m && words::member(self.word(ROWS + r * m + x), y)
     }
+
+    ghost sized = { λ x. held_sized x.roles x.words.now };
 }

@@ -3,7 +3,7 @@ use Rattle.std.proofs.Common.{◌≡◌, ℕ, zero, suc, ◌+◌, ◌-◌, ◌<�
 use Rattle.std.proofs.lemmas.Bool.{cases_lt, cases_eq, and_parts, and_from, or_cases, or_left, or_right, cond-true, cond-false, lt-ltb, le-ltb, ltb-true, eqb-true, eq-eqb, ne_eqb}
 use Rattle.meaning.specs.Books.{Book}
 use Rattle.meaning.specs.Orders.{RoleBox}
-use Rattle.meaning.specs.Universal.{universal_size, universal_law, universal_at, universal_else, with_universal}
+use Rattle.meaning.specs.Universal.{universal_size, universal_law, universal_inside, universal_at, universal_else, with_universal}
 use Rattle.meaning.specs.declared.Concept.TheVariants.{Nothing, Restriction}
 use Rattle.meaning.specs.declared.Quantifier.TheVariants.{Forall}
 use Rattle.tableau.specs.declared.Label.{Label}
@@ -20,16 +20,14 @@ use Rattle.tableau.proofs.Gathering.{Each, gather_each, Among, gather_among}
 module _ (H : RoleBox) (O : Ordered H) (few : H.count < 64) where
   -- what was transitive is, and so is the universal role
   pub universal_transitive : (r : ℕ) → H.transitive r ≡ true → (with_universal H).transitive r ≡ true
-  universal_transitive r e =
-      let l = O.inside r e in
-      and_from _ _ (lt-ltb r (universal_size H.count) (omega arith)) (or_right (eqb r H.count) (H.transitive r) e)
+  universal_transitive r e = or_right (eqb r H.count) (H.transitive r) e
 
   pub universal_top : (with_universal H).transitive H.count ≡ true
-  universal_top = and_from _ _ (lt-ltb H.count (universal_size H.count) (omega arith)) (or_left (eqb H.count H.count) _ (eq-eqb H.count H.count refl))
+  universal_top = or_left (eqb H.count H.count) _ (eq-eqb H.count H.count refl)
 
   -- a transitive role is the universal one, or was transitive
   pub transitive_cases : (r : ℕ) → (with_universal H).transitive r ≡ true → (r ≡ H.count) ⊎ (H.transitive r ≡ true)
-  transitive_cases r e = ⊎_elim (λ h. inl (eqb-true r H.count h)) (λ h. inr h) (or_cases (eqb r H.count) (H.transitive r) (and_parts _ _ e).1)
+  transitive_cases r e = ⊎_elim (λ h. inl (eqb-true r H.count h)) (λ h. inr h) (or_cases (eqb r H.count) (H.transitive r) e)
 
   -- what was below is, and all roles are below the universal one
   pub universal_below : (r s : ℕ) → H.below r s ≡ true → (with_universal H).below r s ≡ true
@@ -42,7 +40,7 @@ module _ (H : RoleBox) (O : Ordered H) (few : H.count < 64) where
   pub universal_ordered : Ordered (with_universal H)
   universal_ordered = record {
     law = universal_law H.count H.below O.law;
-    inside = λ r e. ltb-true r (universal_size H.count) (and_parts _ _ e).0;
+    inside = universal_inside H.count H.transitive few O.inside;
   }
 
 -- what is at each place of the table

@@ -100,5 +100,5 @@ returns g c =
     record {
       value = granted_is roles m (length words) W size c.if-words-needed.false;
       words = drawn;
-      right = subst (Drawn roles W) (sym drawn) (drawing_right roles W (g.W.World.sized c.args.world.now) words enough);
+      right = subst (Drawn roles W) (sym drawn) (drawing_right roles W (g.met.W.World.sized c.args.world.now) words enough);
     }

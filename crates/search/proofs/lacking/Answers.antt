@@ -9,21 +9,21 @@ pub loop-p-smaller-in-None : goal.loop-p-smaller-in-None
 loop-p-smaller-in-None g c =
     let s = c.args.strategy.now in
     let i = c.loop-p.invariant.fit in
-    rw length-set (went_done (g.S.Strategy.game s) (g.S.Strategy.few s) c.loop-p.nodes c.args.m i.within i.blanks _ _ c.in-Some.ensures c.in-None.ensures).falls
+    rw length-set (went_done (g.S.Strategy.game s) (g.met.S.Strategy.few s) c.loop-p.nodes c.args.m i.within i.blanks _ _ c.in-Some.ensures c.in-None.ensures).falls
 
 pub loop-p-preserved-in-None : goal.loop-p-preserved-in-None
 loop-p-preserved-in-None g c =
     let s = c.args.strategy.now in
     let i = c.loop-p.invariant.fit in
     along_more (g.S.Strategy.game s) c.args.nodes.now c.args.m c.loop-p.nodes _ c.loop-p.invariant (rw length-set refl)
-    (went_done (g.S.Strategy.game s) (g.S.Strategy.few s) c.loop-p.nodes c.args.m i.within i.blanks _ _ c.in-Some.ensures c.in-None.ensures)
+    (went_done (g.S.Strategy.game s) (g.met.S.Strategy.few s) c.loop-p.nodes c.args.m i.within i.blanks _ _ c.in-Some.ensures c.in-None.ensures)
 
 pub returns-then-m-nodes : goal.returns-then-m-nodes
 returns-then-m-nodes g c =
     let s = c.args.strategy.now in
     let i = c.loop-p.invariant.fit in
     sym (ap (λ n. value (g.S.Strategy.game s) n c.args.nodes.now c.args.m Go) c.loop-p.invariant.long) ∙ sym c.loop-p.invariant.kept
-    ∙ without_room (g.S.Strategy.game s) (g.S.Strategy.few s) c.loop-p.nodes c.args.m i.within i.blanks _ _ c.in-Some.ensures
+    ∙ without_room (g.S.Strategy.game s) (g.met.S.Strategy.few s) c.loop-p.nodes c.args.m i.within i.blanks _ _ c.in-Some.ensures
     c.in-Some-next_seed.seed c.in-Some-next_seed.after c.in-Some-next_seed.ensures (any_held _ _ _ c.lowest.ensures ∙ c.if-is_none.ensures) (omega (arith, simp length-set at c.if-m-nodes.true))
 
 pub returns-then-is_none : goal.returns-then-is_none
@@ -31,14 +31,14 @@ returns-then-is_none g c =
     let s = c.args.strategy.now in
     let i = c.loop-p.invariant.fit in
     along_to (g.S.Strategy.game s) c.args.nodes.now c.args.m c.loop-p.nodes _ c.loop-p.invariant _ _
-    (went_down (g.S.Strategy.game s) (g.S.Strategy.few s) c.loop-p.nodes c.args.m i.within i.blanks _ _ c.in-Some.ensures
+    (went_down (g.S.Strategy.game s) (g.met.S.Strategy.few s) c.loop-p.nodes c.args.m i.within i.blanks _ _ c.in-Some.ensures
     c.in-Some-next_seed.seed c.in-Some-next_seed.after c.in-Some-next_seed.ensures (any_held _ _ _ c.lowest.ensures ∙ c.if-is_none.ensures) (omega (arith, simp length-set at c.if-m-nodes.false)))
 
 pub loop-p-smaller : goal.loop-p-smaller
 loop-p-smaller g c =
     let s = c.args.strategy.now in
     let i = c.loop-p.invariant.fit in
-    rw length-set (went_on (g.S.Strategy.game s) (g.S.Strategy.few s) c.loop-p.nodes c.args.m i.within i.blanks _ _ c.in-Some.ensures
+    rw length-set (went_on (g.S.Strategy.game s) (g.met.S.Strategy.few s) c.loop-p.nodes c.args.m i.within i.blanks _ _ c.in-Some.ensures
     c.in-Some-next_seed.seed c.in-Some-next_seed.after c.in-Some-next_seed.ensures (any_held _ _ _ c.lowest.ensures ∙ c.if-is_none.ensures)).falls
 
 pub loop-p-preserved : goal.loop-p-preserved
@@ -46,7 +46,7 @@ loop-p-preserved g c =
     let s = c.args.strategy.now in
     let i = c.loop-p.invariant.fit in
     along_more (g.S.Strategy.game s) c.args.nodes.now c.args.m c.loop-p.nodes _ c.loop-p.invariant (rw length-set refl)
-    (went_on (g.S.Strategy.game s) (g.S.Strategy.few s) c.loop-p.nodes c.args.m i.within i.blanks _ _ c.in-Some.ensures
+    (went_on (g.S.Strategy.game s) (g.met.S.Strategy.few s) c.loop-p.nodes c.args.m i.within i.blanks _ _ c.in-Some.ensures
     c.in-Some-next_seed.seed c.in-Some-next_seed.after c.in-Some-next_seed.ensures (any_held _ _ _ c.lowest.ensures ∙ c.if-is_none.ensures))
 
 pub returns : goal.returns

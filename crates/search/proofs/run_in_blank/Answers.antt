@@ -15,14 +15,14 @@ pub turn-smaller : goal.turn-smaller
 turn-smaller g c =
     let s = c.args.strategy.now in
     turn_falls (g.S.Strategy.game s) c.args.nodes.now c.turn.nodes _ _ _ _ _ 0 (Try c.args.seed 0) _ _ _ refl c.retreat.auto.nodes
-    (went_none (g.S.Strategy.game s) (g.S.Strategy.few s) c.turn.nodes c.turn.m c.turn.seed c.turn.c c.turn.invariant.0.within c.turn.invariant.0.blanks c.in-None.ensures)
-    (c.in-Some-retreat.ensures (g.S.Strategy.game s) (g.S.Strategy.few s))
+    (went_none (g.S.Strategy.game s) (g.met.S.Strategy.few s) c.turn.nodes c.turn.m c.turn.seed c.turn.c c.turn.invariant.0.within c.turn.invariant.0.blanks c.in-None.ensures)
+    (c.in-Some-retreat.ensures (g.S.Strategy.game s) (g.met.S.Strategy.few s))
 
 pub turn-preserved : goal.turn-preserved
 turn-preserved g c =
     let s = c.args.strategy.now in
-    let w = went_none (g.S.Strategy.game s) (g.S.Strategy.few s) c.turn.nodes c.turn.m c.turn.seed c.turn.c c.turn.invariant.0.within c.turn.invariant.0.blanks c.in-None.ensures in
-    let v = c.in-Some-retreat.ensures (g.S.Strategy.game s) (g.S.Strategy.few s) in
+    let w = went_none (g.S.Strategy.game s) (g.met.S.Strategy.few s) c.turn.nodes c.turn.m c.turn.seed c.turn.c c.turn.invariant.0.within c.turn.invariant.0.blanks c.in-None.ensures in
+    let v = c.in-Some-retreat.ensures (g.S.Strategy.game s) (g.met.S.Strategy.few s) in
     (v.fit, turn_kept (g.S.Strategy.game s) c.args.nodes.now c.turn.nodes _ _ _ _ _ 0 (Try c.args.seed 0) _ _ _ refl c.retreat.auto.nodes w v c.turn.invariant.1)
 
 pub turn-smaller-in-Some-2 : goal.turn-smaller-in-Some-2
@@ -30,33 +30,33 @@ turn-smaller-in-Some-2 g c =
     let s = c.args.strategy.now in
     let v = simp c.in-Some-2.is at c.in_ok-wanted-in-Some.ensures in
     turn_falls (g.S.Strategy.game s) c.args.nodes.now c.turn.nodes _ _ _ _ _ 0 (Try c.args.seed 0) _ _ _ (rw length-set refl) c.lacking.auto.nodes
-    (went_new (g.S.Strategy.game s) (g.S.Strategy.few s) c.turn.nodes c.turn.m c.turn.seed c.turn.c _ _ c.turn.invariant.0.within c.turn.invariant.0.blanks c.in-Some.ensures)
+    (went_new (g.S.Strategy.game s) (g.met.S.Strategy.few s) c.turn.nodes c.turn.m c.turn.seed c.turn.c _ _ c.turn.invariant.0.within c.turn.invariant.0.blanks c.in-Some.ensures)
     v
 
 pub turn-preserved-in-Some-2 : goal.turn-preserved-in-Some-2
 turn-preserved-in-Some-2 g c =
     let s = c.args.strategy.now in
     let v = simp c.in-Some-2.is at c.in_ok-wanted-in-Some.ensures in
-    let w = went_new (g.S.Strategy.game s) (g.S.Strategy.few s) c.turn.nodes c.turn.m c.turn.seed c.turn.c _ _ c.turn.invariant.0.within c.turn.invariant.0.blanks c.in-Some.ensures in
+    let w = went_new (g.S.Strategy.game s) (g.met.S.Strategy.few s) c.turn.nodes c.turn.m c.turn.seed c.turn.c _ _ c.turn.invariant.0.within c.turn.invariant.0.blanks c.in-Some.ensures in
     (v.fit, turn_kept (g.S.Strategy.game s) c.args.nodes.now c.turn.nodes _ _ _ _ _ 0 (Try c.args.seed 0) _ _ _ (rw length-set refl) c.lacking.auto.nodes w v c.turn.invariant.1)
 
 pub returns-in_err-wanted-in-Some : goal.returns-in_err-wanted-in-Some
 returns-in_err-wanted-in-Some g c =
     let s = c.args.strategy.now in
-    let w = went_new (g.S.Strategy.game s) (g.S.Strategy.few s) c.turn.nodes c.turn.m c.turn.seed c.turn.c _ _ c.turn.invariant.0.within c.turn.invariant.0.blanks c.in-Some.ensures in
+    let w = went_new (g.S.Strategy.game s) (g.met.S.Strategy.few s) c.turn.nodes c.turn.m c.turn.seed c.turn.c _ _ c.turn.invariant.0.within c.turn.invariant.0.blanks c.in-Some.ensures in
     let e = w.kept ∙ began (g.S.Strategy.game s) c.args.nodes.now c.turn.nodes c.turn.m (Try c.turn.seed c.turn.c) c.args.seed (omega arith) (omega (arith, c.turn.invariant.0.within)) c.turn.invariant.1 in
     no_room _ c.from_residual.result _ c.from_residual.ensures.0 (sym e ∙ (simp length-set at c.in_err-wanted-in-Some.ensures))
 
 pub returns-in-None-2 : goal.returns-in-None-2
 returns-in-None-2 g c =
     let s = c.args.strategy.now in
-    let w = went_new (g.S.Strategy.game s) (g.S.Strategy.few s) c.turn.nodes c.turn.m c.turn.seed c.turn.c _ _ c.turn.invariant.0.within c.turn.invariant.0.blanks c.in-Some.ensures in
+    let w = went_new (g.S.Strategy.game s) (g.met.S.Strategy.few s) c.turn.nodes c.turn.m c.turn.seed c.turn.c _ _ c.turn.invariant.0.within c.turn.invariant.0.blanks c.in-Some.ensures in
     let e = w.kept ∙ began (g.S.Strategy.game s) c.args.nodes.now c.turn.nodes c.turn.m (Try c.turn.seed c.turn.c) c.args.seed (omega arith) (omega (arith, c.turn.invariant.0.within)) c.turn.invariant.1 in
     subst (Says c.lacking.new.nodes (Ok (Some (c.turn.m + 1)))) e (simp (c.in-None-2.is, length-set) at c.in_ok-wanted-in-Some.ensures)
 
 pub returns-in-None-retreat : goal.returns-in-None-retreat
 returns-in-None-retreat g c =
     let s = c.args.strategy.now in
-    let w = went_none (g.S.Strategy.game s) (g.S.Strategy.few s) c.turn.nodes c.turn.m c.turn.seed c.turn.c c.turn.invariant.0.within c.turn.invariant.0.blanks c.in-None.ensures in
+    let w = went_none (g.S.Strategy.game s) (g.met.S.Strategy.few s) c.turn.nodes c.turn.m c.turn.seed c.turn.c c.turn.invariant.0.within c.turn.invariant.0.blanks c.in-None.ensures in
     let e = w.kept ∙ began (g.S.Strategy.game s) c.args.nodes.now c.turn.nodes c.turn.m (Try c.turn.seed c.turn.c) c.args.seed (omega arith) (omega (arith, c.turn.invariant.0.within)) c.turn.invariant.1 in
-    subst (Says c.retreat.new.nodes (Ok None)) e (c.in-None-retreat.ensures (g.S.Strategy.game s) (g.S.Strategy.few s))
+    subst (Says c.retreat.new.nodes (Ok None)) e (c.in-None-retreat.ensures (g.S.Strategy.game s) (g.met.S.Strategy.few s))

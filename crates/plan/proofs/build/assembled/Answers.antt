@@ -1,4 +1,4 @@
-use Rattle.std.proofs.Common.{◌≡◌, ◌≤◌, ◌&&◌, ltb, length, get_or, sym, ap, ◌∙◌, arith, rules, length-take}
+use Rattle.std.proofs.Common.{◌≡◌, ◌≤◌, length, get_or, sym, ap, ◌∙◌, arith, rules, length-take}
 use Rattle.words.specs.Sets.{has}
 use Rattle.meaning.specs.Universal.{universal_size, universal_under, universal_passing}
 use Rattle.book.specs.Sections.{says}
@@ -8,7 +8,7 @@ use Rattle.roles.specs.declared.rows.Rows.{Rows}
 use Rattle.tableau.specs.Expansions.{absurd_entry}
 use Rattle.tableau.specs.Seeds.{role_of}
 use Rattle.plan.specs.Building.{box_of}
-use Rattle.plan.proofs.Building.{roles_in, roles_first, lower_at, lower_first, all_lowered, marks_same}
+use Rattle.plan.proofs.Building.{roles_in, roles_first, lower_at, lower_first, all_lowered}
 use Rattle.plan.proofs.Filling.{propagated_inside, within_first, signs_first}
 use Rattle.plan.specs.Signs.{grows, obliging_entry, restricting_entry}
 use Rattle.plan.specs.Forcing.{forced_by}
@@ -76,6 +76,5 @@ returns c =
       entry_is = c.entries-entries.ensures;
       propagated_is = c.propagated-propagated.ensures;
       row_is = λ r s. c.rows-rows.ensures r s ∙ ap (λ (x : Rows). universal_under x.count (related x.rows) r s) over;
-      marks_are = λ r. c.marks-marks.ensures r ∙ ap (λ (x : Rows). ltb r (universal_size x.count) && universal_passing x.count (has x.marks) r) over
-          ∙ marks_same x.count (has x.marks) r c.requires.opens.few;
+      marks_are = λ r. c.marks-marks.ensures r ∙ ap (λ (x : Rows). universal_passing x.count (has x.marks) r) over;
     }

@@ -19,7 +19,7 @@ opens c =
     let d = c.in_ok-draft.draft in
     let h = layer_granted b.count c.in_ok-universal.universal.base.now b _ c.in_ok-universal.ensures.value in
     let narrow : width_of (box_of b) K ≤ 64 = rw (sym c.in_ok-draft.ensures.book) (rw (sym c.in_ok-draft.ensures.base) (omega (arith, d.width_is, d.narrow))) in
-    opens_from b.count (related b.rows) (has b.marks) K (lawful_known b.count (related b.rows) b.law) (book_sound c.args.book.now)
+    opens_from b.count (related b.rows) (has b.marks) K (lawful_known b.count (related b.rows) b.law) b.inside (book_sound c.args.book.now)
     (omega (arith, c.count-count.ensures, c.role_count.ensures, c.if-count-role_count.false)) h.0 narrow
 
 pub assembled-requires-clause-opens : goal.assembled-requires-clause-opens

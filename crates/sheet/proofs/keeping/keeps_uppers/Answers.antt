@@ -10,4 +10,4 @@ returns g c =
     let r = c.args.r in
     let P = λ (s : ℕ). g.H.Order.under h r s ≡ true → Includes W r s in
     let d = each_below c.count.result (g.H.Order.size h) P _ c.count.ensures c.all.ensures.ran (λ x q e. search rules) (λ x q e. search rules) in
-    ((λ e s u. d.0 e s ((g.H.Order.lawful h).within _ _ u).1 u), (λ each. d.1 (λ s l u. each s u)))
+    ((λ e s u. d.0 e s ((g.met.H.Order.lawful h).within _ _ u).1 u), (λ each. d.1 (λ s l u. each s u)))
