@@ -2,6 +2,7 @@
 ghost use Rattle.std.specs.Prelude.{◌≡◌, ◌+◌, ◌/◌, ◌<◌, ◌≤◌, true, length, take, IfSome, IfOk, OnOk};
 ghost use Rattle.denial.specs.Denials.{answer, granted, record_report};
 ghost use Rattle.meaning.specs.Books.{Sound};
+ghost use Rattle.book.specs.Kinds.{kind_of};
 ghost use Rattle.book.specs.Sections.{says};
 ghost use Rattle.book.specs.Records.{named, fitting, lowest_bad_role, lowest_unfit, lowest_bad_concept, faultless};
 ghost use Rattle.book.specs.Layouts.{laying, Laid};
@@ -140,9 +141,8 @@ fn first_bad_concept(roles: usize, concepts: &[u8]) -> Option<usize>
 
 // Whether entry i may have this kind and these operands; `taken` says that an entry before it has the name.
 // Stays: the kind is a byte of the format until `Kind::try_from` has read it, and a byte of no kind fits nowhere.
-#[tactic(auto, unfolding(crate::specs::Records::fitting))]
 fn fits(roles: usize, i: usize, taken: bool, kind: u8, b: u8, c: u8) -> bool
-    ensures { result ≡ fitting roles i taken kind b c }
+    ensures { result ≡ fitting roles i taken (kind_of kind) b c }
 {
     match Kind::try_from(kind) {
         Ok(Kind::Nothing | Kind::Everything) => b == 0 && c == 0,

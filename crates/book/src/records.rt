@@ -1,5 +1,6 @@
 // What a book that was read says: its counts, its concepts and its rules.
 ghost use Rattle.std.specs.Prelude.{◌≡◌, ℕ, ◌/◌, ◌%◌, ◌<◌, ◌≤◌, length, slice_index};
+ghost use Rattle.book.specs.Kinds.{kind_of};
 ghost use Rattle.book.specs.Sections.{says, decode};
 ghost use Rattle.book.specs.Views.{view};
 
@@ -82,9 +83,8 @@ impl Book {
 
 // The concept of a record of this kind, with these operands.
 // Stays: the kind is a byte of the format until `Kind::try_from` has read it, and a byte of no kind is nothing.
-#[tactic(auto, unfolding(crate::specs::Sections::decode))]
 fn decoded(kind: u8, b: u8, c: u8) -> Concept
-    ensures { result ≡ decode kind b c }
+    ensures { result ≡ decode (kind_of kind) b c }
 {
     match Kind::try_from(kind) {
         Ok(Kind::Everything) => Concept::Everything,
