@@ -37,8 +37,8 @@ good roles pairs concepts rules e =
       rules_good = clear_from (length rules / 2) (unfit (length concepts / 4) rules) (not-true _ c.1);
     }
 
-module _ (n i : ℕ) (taken : Bool) (b c : ℕ) where
-  fitting_lower : (o : Option Kind) → fitting n i taken o b c ≡ true → Lower i (decode o b c)
+module _ (n : ℕ) (concepts : List ℕ) (i b c : ℕ) where
+  fitting_lower : (o : Option Kind) → fitting n concepts i o b c ≡ true → Lower i (decode o b c)
   fitting_lower (Some kind.Nothing) e = tt
   fitting_lower (Some kind.Everything) e = tt
   fitting_lower (Some kind.Name) e = tt
@@ -51,17 +51,17 @@ module _ (n i : ℕ) (taken : Bool) (b c : ℕ) where
   fitting_lower None e = tt
 
   -- a restriction is by a role of the book
-  fitting_role : (q : Quantifier) (r a : ℕ) (o : Option Kind) → fitting n i taken o b c ≡ true → decode o b c ≡ Restriction q r a → r < n
+  fitting_role : (q : Quantifier) (r a : ℕ) (o : Option Kind) → fitting n concepts i o b c ≡ true → decode o b c ≡ Restriction q r a → r < n
   fitting_role q r a (Some kind.Exists) e d = let same : b ≡ r = cc in omega (arith, ltb-true b n (and_parts (ltb b n) (ltb c i) e).0)
   fitting_role q r a (Some kind.Forall) e d = let same : b ≡ r = cc in omega (arith, ltb-true b n (and_parts (ltb b n) (ltb c i) e).0)
   fitting_role q r a (Some kind.NoneOf) e d = let same : b ≡ r = cc in omega (arith, ltb-true b n (and_parts (ltb b n) (ltb c i) e).0)
   fitting_role q r a o e d = absurd (let z : ◌≡◌ {A = ℕ} 0 1 = cc in omega arith)
 
   -- a name is one of 64, and had no entry before
-  fitting_name : (m : ℕ) (o : Option Kind) → fitting n i taken o b c ≡ true → decode o b c ≡ Name m → (is_name o ≡ true) × (b ≡ m) × (taken ≡ false) × (b < 64)
+  fitting_name : (m : ℕ) (o : Option Kind) → fitting n concepts i o b c ≡ true → decode o b c ≡ Name m → (is_name o ≡ true) × (b ≡ m) × (named concepts i b ≡ false) × (b < 64)
   fitting_name m (Some kind.Name) e d =
-      let h = and_parts (ltb b 64) (eqb c 0 && not taken) e in
-      (refl, cc, not-true taken (and_parts (eqb c 0) (not taken) h.1).1, ltb-true b 64 h.0)
+      let h = and_parts (ltb b 64) (eqb c 0 && not (named concepts i b)) e in
+      (refl, cc, not-true (named concepts i b) (and_parts (eqb c 0) (not (named concepts i b)) h.1).1, ltb-true b 64 h.0)
   fitting_name m o e d = absurd (let z : ◌≡◌ {A = ℕ} 0 1 = cc in omega arith)
 
 halves : (k : ℕ) → (2 * (k / 2) ≡ k) ⊎ (2 * (k / 2) + 1 ≡ k)
@@ -70,13 +70,13 @@ halves k = ⊎_elim (λ l. inl (omega arith)) (λ g. inr (omega arith)) (cases_l
 module _ (roles pairs concepts rules : List ℕ) (G : Good roles pairs concepts rules) where
   -- the record of an entry fits
   fits : (i : ℕ) → i < length concepts / 4
-      → fitting (length roles) i (named concepts i (get_or concepts (4 * i + 1) 0)) (kind_of (get_or concepts (4 * i) 0)) (get_or concepts (4 * i + 1) 0) (get_or concepts (4 * i + 2) 0) ≡ true
+      → fitting (length roles) concepts i (kind_of (get_or concepts (4 * i) 0)) (get_or concepts (4 * i + 1) 0) (get_or concepts (4 * i + 2) 0) ≡ true
   fits i l = (and_parts _ _ (not-false _ (G.concepts_good i l))).0
 
   lower : length concepts % 4 ≡ 0 → (i : ℕ) → Lower i (concept_at concepts i)
   unfolding kind_of
   lower whole i = ⊎_elim
-      (λ l. fitting_lower (length roles) i _ _ _ _ (fits i l))
+      (λ l. fitting_lower (length roles) concepts i _ _ _ (fits i l))
       (λ g. subst (λ k. Lower i (decode (kind_of k) (get_or concepts (4 * i + 1) 0) (get_or concepts (4 * i + 2) 0))) (sym (get_or_past concepts (4 * i) 0 (omega arith))) tt)
       (cases_lt i (length concepts / 4))
 
@@ -84,7 +84,7 @@ module _ (roles pairs concepts rules : List ℕ) (G : Good roles pairs concepts 
   name_at : (i m : ℕ) → i < length concepts / 4 → concept_at concepts i ≡ Name m
       → (is_name (kind_of (get_or concepts (4 * i) 0)) ≡ true) × (get_or concepts (4 * i + 1) 0 ≡ m) × (named concepts i m ≡ false) × (m < 64)
   name_at i m l e =
-      let f = fitting_name (length roles) i (named concepts i (get_or concepts (4 * i + 1) 0)) (get_or concepts (4 * i + 1) 0) (get_or concepts (4 * i + 2) 0) m (kind_of (get_or concepts (4 * i) 0)) (fits i l) e in
+      let f = fitting_name (length roles) concepts i (get_or concepts (4 * i + 1) 0) (get_or concepts (4 * i + 2) 0) m (kind_of (get_or concepts (4 * i) 0)) (fits i l) e in
       (f.0, f.1, subst (λ b. named concepts i b ≡ false) f.1 f.2, omega (arith, f.1, f.3))
 
   never_after : (i j m : ℕ) → i < j → j < length concepts / 4 → concept_at concepts i ≡ Name m → concept_at concepts j ≡ Name m → ⊥
@@ -118,7 +118,7 @@ module _ (roles pairs concepts rules : List ℕ) (G : Good roles pairs concepts 
     few_entries = omega arith;
     few_rules = omega arith;
     lower = lower whole;
-    roles_in = λ i r a q l e. fitting_role (length roles) i _ (get_or concepts (4 * i + 1) 0) (get_or concepts (4 * i + 2) 0) q r a (kind_of (get_or concepts (4 * i) 0)) (fits i l) e;
+    roles_in = λ i r a q l e. fitting_role (length roles) concepts i (get_or concepts (4 * i + 1) 0) (get_or concepts (4 * i + 2) 0) q r a (kind_of (get_or concepts (4 * i) 0)) (fits i l) e;
     names_in = λ i m l e. (name_at i m l e).3;
     names_once = names_once;
     premises_in = λ k l. ltb-true _ _ (and_parts _ _ (not-false _ (G.rules_good k l))).0;

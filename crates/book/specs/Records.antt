@@ -21,22 +21,22 @@ unfit n records k = not (both_within n records k)
 unfoldable pub named : List ℕ → ℕ → ℕ → Bool
 named concepts i b = any i (λ j. is_name (kind_of (slice_index concepts (4 * j))) && slice_index concepts (4 * j + 1) == b)
 
--- the operands that an entry of a kind may have as entry i of a book with n roles; `taken` says that the name has an entry already
-abbrev pub fitting : ℕ → ℕ → Bool → Option Kind → ℕ → ℕ → Bool
-fitting n i taken (Some Nothing) b c = b == 0 && c == 0
-fitting n i taken (Some Everything) b c = b == 0 && c == 0
-fitting n i taken (Some Name) b c = nat_lt b 64 && (c == 0 && not taken)
-fitting n i taken (Some Not) b c = nat_lt b i && c == 0
-fitting n i taken (Some And) b c = nat_lt b i && nat_lt c i
-fitting n i taken (Some Or) b c = nat_lt b i && nat_lt c i
-fitting n i taken (Some Exists) b c = nat_lt b n && nat_lt c i
-fitting n i taken (Some Forall) b c = nat_lt b n && nat_lt c i
-fitting n i taken (Some NoneOf) b c = nat_lt b n && nat_lt c i
-fitting n i taken None b c = false
+-- the operands that an entry of a kind may have as entry i of a book with n roles; a name is one that no entry before i has
+abbrev pub fitting : ℕ → List ℕ → ℕ → Option Kind → ℕ → ℕ → Bool
+fitting n concepts i (Some Nothing) b c = b == 0 && c == 0
+fitting n concepts i (Some Everything) b c = b == 0 && c == 0
+fitting n concepts i (Some Name) b c = nat_lt b 64 && (c == 0 && not (named concepts i b))
+fitting n concepts i (Some Not) b c = nat_lt b i && c == 0
+fitting n concepts i (Some And) b c = nat_lt b i && nat_lt c i
+fitting n concepts i (Some Or) b c = nat_lt b i && nat_lt c i
+fitting n concepts i (Some Exists) b c = nat_lt b n && nat_lt c i
+fitting n concepts i (Some Forall) b c = nat_lt b n && nat_lt c i
+fitting n concepts i (Some NoneOf) b c = nat_lt b n && nat_lt c i
+fitting n concepts i None b c = false
 
 abbrev pub fitting_at : ℕ → List ℕ → ℕ → Bool
 fitting_at n concepts i =
-    fitting n i (named concepts i (slice_index concepts (4 * i + 1))) (kind_of (slice_index concepts (4 * i))) (slice_index concepts (4 * i + 1)) (slice_index concepts (4 * i + 2))
+    fitting n concepts i (kind_of (slice_index concepts (4 * i))) (slice_index concepts (4 * i + 1)) (slice_index concepts (4 * i + 2))
 
 -- a concept entry: kind, two operands, and a last byte that is 0
 abbrev pub bad_concept : ℕ → List ℕ → ℕ → Bool
