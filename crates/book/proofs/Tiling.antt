@@ -65,5 +65,5 @@ module _ (bytes : List ℕ) where
   unfolding parts_of
   parts_of_refused r e = rw (← e)
 
-  pub tiles : Tiles bytes
-  tiles s e = subst (λ ps. EndToEnd 0 ps bytes) (sym (parts_of_read s e)) (tiled (layout_of bytes) (layout_of_read s e))
+  pub tiles : (ps : List Piece) → ps ≡ parts_of bytes → Tiles bytes ps
+  tiles ps e s r = subst (λ ps. EndToEnd 0 ps bytes) (sym (e ∙ parts_of_read s r)) (tiled (layout_of bytes) (layout_of_read s r))

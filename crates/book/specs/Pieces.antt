@@ -98,6 +98,6 @@ abbrev pub EndToEnd : ℕ → List Piece → List ℕ → Type 0
 EndToEnd at [] bytes = bytes ≡ []
 EndToEnd at (p ∷ ps) bytes = (rest : List ℕ) × (p.place ≡ at) × (bytes ≡ p.bytes ++ rest) × EndToEnd (at + length p.bytes) ps rest
 
--- where the book is read, its parts laid end to end are the book
-abbrev pub Tiles : List ℕ → Type 0
-Tiles bytes = (s : Sections) → reading bytes ≡ granted s → EndToEnd 0 (parts_of bytes) bytes
+-- where the book is read, these parts laid end to end are the book
+abbrev pub Tiles : List ℕ → List Piece → Type 0
+Tiles bytes parts = (s : Sections) → reading bytes ≡ granted s → EndToEnd 0 parts bytes

@@ -11,7 +11,7 @@ mod kind;
 pub mod parts;
 pub mod read;
 mod records;
-pub mod trailer;
+mod trailer;
 
 // The two records of a role: reading lets no other byte pass.
 pub const PLAIN: u8 = 0;

@@ -8,20 +8,20 @@ use denial::TrailerDenial;
 
 // A section: the byte where it starts, and how many records it has.
 #[derive(Clone, Copy, Default)]
-pub struct Section {
-    pub place: usize,
-    pub count: usize,
+pub(crate) struct Section {
+    pub(crate) place: usize,
+    pub(crate) count: usize,
 }
 
 #[derive(Clone, Copy, Default)]
-pub struct Layout {
-    pub roles: Section,
-    pub pairs: Section,
-    pub concepts: Section,
-    pub rules: Section,
+pub(crate) struct Layout {
+    pub(crate) roles: Section,
+    pub(crate) pairs: Section,
+    pub(crate) concepts: Section,
+    pub(crate) rules: Section,
 }
 
-pub const TRAILER: usize = 16;
+pub(crate) const TRAILER: usize = 16;
 
 const LONGEST: usize = 8192;
 
@@ -67,7 +67,7 @@ const LIMITS: [Limits; 4] = [
 ];
 
 // The layout of a book, or the first fault in its length, its counts or its places.
-pub fn read_layout(bytes: &[u8]) -> Result<Layout, TrailerDenial>
+pub(crate) fn read_layout(bytes: &[u8]) -> Result<Layout, TrailerDenial>
     ensures value { answer (λ l. l) trailer_report result ≡ laying bytes.now }
     ensures laid { IfOk result (λ l. Laid (length bytes.now) l) }
 {
