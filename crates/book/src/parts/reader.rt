@@ -1,6 +1,6 @@
 // Going through the parts of a book.
 ghost use Rattle.std.specs.Prelude.{◌≡◌, ◌+◌, ◌≤◌, length};
-ghost use Rattle.book.specs.Pieces.{parts_of, Tiles, target_of, size_of};
+ghost use Rattle.book.specs.Pieces.{parts_of, Tiles, left, first_span};
 ghost use Rattle.book.specs.Coming.{coming_of, Yields};
 ghost use Rattle.std.specs.Iterator.{at_most};
 
@@ -32,10 +32,9 @@ impl<'a> Parts<'a> {
     }
 
     // Where the next part that is no note starts, and how many bytes it has; 0 and 0 at the end.
-    // Stays: the end has neither, as `target_of` and `size_of` say by 0, so that the arms of `next` need no case for it.
+    // Stays: the end has neither, as `first_span` says by 0, so that the arms of `next` need no case for it.
     fn target(&self) -> (usize, usize)
-        ensures place { result.0 ≡ target_of self.now.bytes.now self.now.layout self.now.stage }
-        ensures size { result.1 ≡ size_of self.now.layout self.now.stage }
+        ensures value { result ≡ first_span (left self.now.bytes.now self.now.layout self.now.stage) }
         ensures inside { result.0 + result.1 ≤ length self.now.bytes.now }
     {
         let Layout {
