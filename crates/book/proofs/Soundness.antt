@@ -7,6 +7,7 @@ use Rattle.meaning.specs.Books.{Sound}
 use Rattle.meaning.specs.declared.Concept.TheVariants.{Name, Restriction}
 use Rattle.meaning.specs.declared.Quantifier.{Quantifier}
 use Rattle.meaning.proofs.Tests.{any_from}
+use Rattle.book.specs.Limits.{most_roles, most_entries, most_rules}
 use Rattle.book.specs.declared.kind.Kind.{Kind}
 use Rattle.book.specs.declared.kind.Kind.TheVariants as kind
 use Rattle.book.specs.Kinds.{kind_of, is_name}
@@ -110,7 +111,7 @@ module _ (roles pairs concepts rules : List ℕ) (G : Good roles pairs concepts 
       (λ (odd : 2 * (k / 2) + 1 ≡ k). subst (λ j. get_or pairs j 0 < length roles) odd (ltb-true _ _ h.1))
       (halves k)
 
-  pub sound : length concepts % 4 ≡ 0 → length roles ≤ 64 → 4 ≤ length concepts → length concepts ≤ 240 → length rules ≤ 64
+  pub sound : length concepts % 4 ≡ 0 → length roles ≤ most_roles → 4 ≤ length concepts → length concepts ≤ 4 * most_entries → length rules ≤ 2 * most_rules
       → Sound (says (record { roles = roles; pairs = pairs; concepts = concepts; rules = rules }))
   sound whole few some many short = record {
     few_roles = few;

@@ -4,6 +4,7 @@ use Rattle.denial.specs.declared.Report.{Report}
 use Rattle.denial.specs.declared.Layer.TheVariants.{Trailer}
 use Rattle.denial.specs.Denials.{Answer, granted, denied, reported}
 use Rattle.meaning.specs.Bounded.{first}
+use Rattle.book.specs.Limits.{most_roles, most_pairs, most_entries, most_rules}
 use Rattle.book.specs.declared.trailer.Section.{Section}
 use Rattle.book.specs.declared.trailer.Layout.{Layout}
 
@@ -27,7 +28,7 @@ abbrev pub least : ℕ → ℕ
 least j = slice_index (0 ∷ 0 ∷ 1 ∷ 0 ∷ []) j
 
 abbrev pub most : ℕ → ℕ
-most j = slice_index (64 ∷ 256 ∷ 60 ∷ 32 ∷ []) j
+most j = slice_index (most_roles ∷ most_pairs ∷ most_entries ∷ most_rules ∷ []) j
 
 abbrev pub width : ℕ → ℕ
 width j = slice_index (1 ∷ 2 ∷ 4 ∷ 2 ∷ []) j
@@ -65,11 +66,11 @@ laying bytes =
 -- what a layout that was granted is, in a book of so many bytes
 pub record Laid (size : ℕ) (l : Layout) : Type 0 where
   pub short : size ≤ 8192
-  pub few_roles : l.roles.count ≤ 64
-  pub few_pairs : l.pairs.count ≤ 256
+  pub few_roles : l.roles.count ≤ most_roles
+  pub few_pairs : l.pairs.count ≤ most_pairs
   pub some_concepts : 1 ≤ l.concepts.count
-  pub few_concepts : l.concepts.count ≤ 60
-  pub few_rules : l.rules.count ≤ 32
+  pub few_concepts : l.concepts.count ≤ most_entries
+  pub few_rules : l.rules.count ≤ most_rules
   pub roles_end : l.roles.place + l.roles.count ≤ l.pairs.place
   pub pairs_end : l.pairs.place + 2 * l.pairs.count ≤ l.concepts.place
   pub concepts_end : l.concepts.place + 4 * l.concepts.count ≤ l.rules.place

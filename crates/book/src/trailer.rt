@@ -4,6 +4,7 @@ ghost use Rattle.denial.specs.Denials.{answer, trailer_report};
 ghost use Rattle.meaning.specs.Bounded.{first};
 ghost use Rattle.book.specs.Layouts.{number16, section_from, end_of, bad_count, bad_place, laying, Laid};
 
+use crate::{ENTRIES, PAIRS, ROLES, RULES};
 use denial::TrailerDenial;
 
 // A section: the byte where it starts, and how many records it has.
@@ -46,22 +47,22 @@ impl Limits {
 const LIMITS: [Limits; 4] = [
     Limits {
         least: 0,
-        most: 64,
+        most: ROLES,
         width: 1,
     },
     Limits {
         least: 0,
-        most: 256,
+        most: PAIRS,
         width: 2,
     },
     Limits {
         least: 1,
-        most: 60,
+        most: ENTRIES,
         width: 4,
     },
     Limits {
         least: 0,
-        most: 32,
+        most: RULES,
         width: 2,
     },
 ];
