@@ -1,8 +1,8 @@
 -- The layout of a book by its trailer, and what is refused of it.
 use Rattle.std.specs.Prelude.{◌≡◌, ℕ, ◌+◌, ◌-◌, ◌*◌, ◌≤◌, Bool, cond, ◌&&◌, ◌||◌, List, [], ◌∷◌, length, Some, None, Option, ◌==◌, nat_le, nat_lt, slice_index}
 use Rattle.denial.specs.declared.Report.{Report}
-use Rattle.denial.specs.declared.Layer.TheVariants.{Trailer}
-use Rattle.denial.specs.Denials.{Answer, granted, denied, reported}
+use Rattle.denial.specs.declared.TrailerDenial.TheVariants.{Length, Count, Place}
+use Rattle.denial.specs.Denials.{Answer, granted, denied, trailer_report}
 use Rattle.meaning.specs.Bounded.{first}
 use Rattle.book.specs.Limits.{most_roles, most_pairs, most_entries, most_rules}
 use Rattle.book.specs.declared.trailer.Section.{Section}
@@ -58,10 +58,10 @@ unless_bad (Some k) report rest = denied (report k)
 unfoldable pub laying : List ℕ → Answer Layout
 laying bytes =
     cond (nat_le 16 (length bytes) && nat_le (length bytes) 8192)
-    (unless_bad (first 4 (bad_count bytes)) (λ j. reported 2 (trailer_start bytes + 4 * j + 2) Trailer)
-    (unless_bad (first 4 (bad_place bytes)) (λ j. reported 3 (trailer_start bytes + 4 * j) Trailer)
+    (unless_bad (first 4 (bad_count bytes)) (λ j. trailer_report (Count (trailer_start bytes + 4 * j + 2)))
+    (unless_bad (first 4 (bad_place bytes)) (λ j. trailer_report (Place (trailer_start bytes + 4 * j)))
     (granted (layout_of bytes))))
-    (denied (reported 1 (length bytes) Trailer))
+    (denied (trailer_report (Length (length bytes))))
 
 -- what a layout that was granted is, in a book of so many bytes
 pub record Laid (size : ℕ) (l : Layout) : Type 0 where
