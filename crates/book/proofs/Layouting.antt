@@ -1,9 +1,9 @@
 -- What the layout of a book comes to, case by case.
 use Rattle.std.proofs.Common.{◌≡◌, ℕ, ◌+◌, ◌*◌, ◌≤◌, Bool, true, false, ◌&&◌, ◌||◌, ltb, leb, List, length, is_some, Some, None, Option, sym, refl, ap, ⊎_elim, arith}
 use Rattle.std.proofs.lemmas.Bool.{or_parts, and_from, and_left, and_right, le-leb, lt-leb, ltb-false, cond-false, cases_lt}
-use Rattle.denial.specs.Denials.{granted, denied, reported}
+use Rattle.denial.specs.Denials.{granted, denied, trailer_report}
 use Rattle.denial.specs.declared.Report.{Report}
-use Rattle.denial.specs.declared.Layer.TheVariants.{Trailer}
+use Rattle.denial.specs.declared.TrailerDenial.TheVariants.{Length, Count, Place}
 use Rattle.meaning.specs.Bounded.{first}
 use Rattle.meaning.proofs.Firsts.{Clear, clear_from}
 use Rattle.book.specs.declared.trailer.Section.{Section}
@@ -14,17 +14,17 @@ module _ (bytes : List ℕ) where
   fits : 16 ≤ length bytes → length bytes ≤ 8192 → (leb 16 (length bytes) && leb (length bytes) 8192) ≡ true
   fits p q = and_from (leb 16 (length bytes)) (leb (length bytes) 8192) (le-leb 16 (length bytes) p) (le-leb (length bytes) 8192 q)
 
-  pub laying_length : (leb 16 (length bytes) && leb (length bytes) 8192) ≡ false → laying bytes ≡ denied (reported 1 (length bytes) Trailer)
+  pub laying_length : (leb 16 (length bytes) && leb (length bytes) 8192) ≡ false → laying bytes ≡ denied (trailer_report (Length (length bytes)))
   unfolding laying
   laying_length e = cond-false _ _ _ e
 
   pub laying_count : 16 ≤ length bytes → length bytes ≤ 8192 → (j : ℕ) → Some j ≡ first 4 (bad_count bytes)
-      → laying bytes ≡ denied (reported 2 (trailer_start bytes + 4 * j + 2) Trailer)
+      → laying bytes ≡ denied (trailer_report (Count (trailer_start bytes + 4 * j + 2)))
   unfolding laying
   laying_count p q j e = rw (fits p q, ← e)
 
   pub laying_place : 16 ≤ length bytes → length bytes ≤ 8192 → None ≡ first 4 (bad_count bytes) → (j : ℕ) → Some j ≡ first 4 (bad_place bytes)
-      → laying bytes ≡ denied (reported 3 (trailer_start bytes + 4 * j) Trailer)
+      → laying bytes ≡ denied (trailer_report (Place (trailer_start bytes + 4 * j)))
   unfolding laying
   laying_place p q n j e = rw (fits p q, ← n, ← e)
 

@@ -1,14 +1,16 @@
 -- A book without a bad record is sound.
-use Rattle.std.proofs.Common.{◌≡◌, ℕ, zero, suc, ◌+◌, ◌*◌, ◌/◌, ◌%◌, ◌<◌, ◌≤◌, Bool, true, false, not, ◌&&◌, eqb, ltb, ◌⊎◌, List, length, get_or, sym, refl, subst, inl, inr, ⊎_elim, arith}
+use Rattle.std.proofs.Common.{◌≡◌, ℕ, ◌+◌, ◌*◌, ◌/◌, ◌%◌, ◌<◌, ◌≤◌, true, false, not, ◌&&◌, eqb, ltb, ◌⊎◌, List, length, get_or, Some, None, Option, sym, refl, subst, inl, inr, ⊎_elim, arith}
 use Rattle.std.proofs.lemmas.List.{get_or_past, length-take-le}
-use Rattle.std.proofs.lemmas.Bool.Decides.{nat_tests}
 use Rattle.std.proofs.lemmas.Bool.{and_parts, and_from, not-true, not-false, ltb-true, eq-eqb, cases_lt, cases_order, both_ways}
 use Rattle.meaning.specs.Worlds.{Lower}
 use Rattle.meaning.specs.Books.{Sound}
 use Rattle.meaning.specs.declared.Concept.TheVariants.{Name, Restriction}
 use Rattle.meaning.specs.declared.Quantifier.{Quantifier}
-use Rattle.meaning.specs.declared.Quantifier.TheVariants.{Exists, Forall, NoneOf}
 use Rattle.meaning.proofs.Tests.{any_from}
+use Rattle.book.specs.Limits.{most_roles, most_entries, most_rules}
+use Rattle.book.specs.declared.kind.Kind.{Kind}
+use Rattle.book.specs.declared.kind.Kind.TheVariants as kind
+use Rattle.book.specs.Kinds.{kind_of, is_name}
 use Rattle.book.specs.Sections.{says, decode, concept_at}
 use Rattle.book.specs.declared.Book.{Book}
 use Rattle.book.specs.Views.{view}
@@ -36,68 +38,32 @@ good roles pairs concepts rules e =
       rules_good = clear_from (length rules / 2) (unfit (length concepts / 4) rules) (not-true _ c.1);
     }
 
--- what holds of each of the nine kinds holds of every number below 9
-by_kind : (P : ℕ → Type 0) → P 0 → P 1 → P 2 → P 3 → P 4 → P 5 → P 6 → P 7 → P 8 → (k : ℕ) → k < 9 → P k
-by_kind P a b c d e f g h i zero l = a
-by_kind P a b c d e f g h i (suc zero) l = b
-by_kind P a b c d e f g h i (suc (suc zero)) l = c
-by_kind P a b c d e f g h i (suc (suc (suc zero))) l = d
-by_kind P a b c d e f g h i (suc (suc (suc (suc zero)))) l = e
-by_kind P a b c d e f g h i (suc (suc (suc (suc (suc zero))))) l = f
-by_kind P a b c d e f g h i (suc (suc (suc (suc (suc (suc zero)))))) l = g
-by_kind P a b c d e f g h i (suc (suc (suc (suc (suc (suc (suc zero))))))) l = h
-by_kind P a b c d e f g h i (suc (suc (suc (suc (suc (suc (suc (suc zero)))))))) l = i
-by_kind P a b c d e f g h i (suc (suc (suc (suc (suc (suc (suc (suc (suc k))))))))) l = absurd (omega arith)
-
-module _ (n i : ℕ) (taken : Bool) (b c : ℕ) where
-  fitting_kind : (k : ℕ) → fitting n i taken k b c ≡ true → k < 9
-  unfolding fitting
-  fitting_kind k e = ⊎_elim (λ l. l) (λ g. absurd (both_ways (fitting n i taken k b c) (grind (arith, nat_tests)) e)) (cases_lt k 9)
-
-  fitting_lower : (k : ℕ) → fitting n i taken k b c ≡ true → Lower i (decode k b c)
-  unfolding fitting decode
-  fitting_lower k e =
-      by_kind (λ k. fitting n i taken k b c ≡ true → Lower i (decode k b c))
-      (λ e. tt) (λ e. tt) (λ e. tt)
-      (λ e. ltb-true b i (and_parts (ltb b i) (eqb c 0) e).0)
-      (λ e. let h = and_parts (ltb b i) (ltb c i) e in (ltb-true b i h.0, ltb-true c i h.1))
-      (λ e. let h = and_parts (ltb b i) (ltb c i) e in (ltb-true b i h.0, ltb-true c i h.1))
-      (λ e. ltb-true c i (and_parts (ltb b n) (ltb c i) e).1)
-      (λ e. ltb-true c i (and_parts (ltb b n) (ltb c i) e).1)
-      (λ e. ltb-true c i (and_parts (ltb b n) (ltb c i) e).1)
-      k (fitting_kind k e) e
+module _ (n : ℕ) (concepts : List ℕ) (i b c : ℕ) where
+  fitting_lower : (o : Option Kind) → fitting n concepts i o b c ≡ true → Lower i (decode o b c)
+  fitting_lower (Some kind.Nothing) e = tt
+  fitting_lower (Some kind.Everything) e = tt
+  fitting_lower (Some kind.Name) e = tt
+  fitting_lower (Some kind.Not) e = ltb-true b i (and_parts (ltb b i) (eqb c 0) e).0
+  fitting_lower (Some kind.And) e = let h = and_parts (ltb b i) (ltb c i) e in (ltb-true b i h.0, ltb-true c i h.1)
+  fitting_lower (Some kind.Or) e = let h = and_parts (ltb b i) (ltb c i) e in (ltb-true b i h.0, ltb-true c i h.1)
+  fitting_lower (Some kind.Exists) e = ltb-true c i (and_parts (ltb b n) (ltb c i) e).1
+  fitting_lower (Some kind.Forall) e = ltb-true c i (and_parts (ltb b n) (ltb c i) e).1
+  fitting_lower (Some kind.NoneOf) e = ltb-true c i (and_parts (ltb b n) (ltb c i) e).1
+  fitting_lower None e = tt
 
   -- a restriction is by a role of the book
-  fitting_role : (q : Quantifier) (r a k : ℕ) → fitting n i taken k b c ≡ true → decode k b c ≡ Restriction q r a → r < n
-  unfolding fitting decode
-  fitting_role q r a k e d =
-      let known : (s : Quantifier) → (ltb b n && ltb c i) ≡ true → Restriction s b c ≡ Restriction q r a → r < n
-      = λ s e d. let same : b ≡ r = cc in omega (arith, ltb-true b n (and_parts (ltb b n) (ltb c i) e).0) in
-      by_kind (λ k. fitting n i taken k b c ≡ true → decode k b c ≡ Restriction q r a → r < n)
-      (λ e d. absurd (let z : ◌≡◌ {A = ℕ} 0 1 = cc in omega arith))
-      (λ e d. absurd (let z : ◌≡◌ {A = ℕ} 0 1 = cc in omega arith))
-      (λ e d. absurd (let z : ◌≡◌ {A = ℕ} 0 1 = cc in omega arith))
-      (λ e d. absurd (let z : ◌≡◌ {A = ℕ} 0 1 = cc in omega arith))
-      (λ e d. absurd (let z : ◌≡◌ {A = ℕ} 0 1 = cc in omega arith))
-      (λ e d. absurd (let z : ◌≡◌ {A = ℕ} 0 1 = cc in omega arith))
-      (known Exists) (known Forall) (known NoneOf)
-      k (fitting_kind k e) e d
+  fitting_role : (q : Quantifier) (r a : ℕ) (o : Option Kind) → fitting n concepts i o b c ≡ true → decode o b c ≡ Restriction q r a → r < n
+  fitting_role q r a (Some kind.Exists) e d = let same : b ≡ r = cc in omega (arith, ltb-true b n (and_parts (ltb b n) (ltb c i) e).0)
+  fitting_role q r a (Some kind.Forall) e d = let same : b ≡ r = cc in omega (arith, ltb-true b n (and_parts (ltb b n) (ltb c i) e).0)
+  fitting_role q r a (Some kind.NoneOf) e d = let same : b ≡ r = cc in omega (arith, ltb-true b n (and_parts (ltb b n) (ltb c i) e).0)
+  fitting_role q r a o e d = absurd (let z : ◌≡◌ {A = ℕ} 0 1 = cc in omega arith)
 
-  -- a name is of kind 2, one of 64, and had no entry before
-  fitting_name : (m k : ℕ) → fitting n i taken k b c ≡ true → decode k b c ≡ Name m → (k ≡ 2) × (b ≡ m) × (taken ≡ false) × (b < 64)
-  unfolding fitting decode
-  fitting_name m k e d =
-      by_kind (λ k. fitting n i taken k b c ≡ true → decode k b c ≡ Name m → (k ≡ 2) × (b ≡ m) × (taken ≡ false) × (b < 64))
-      (λ e d. absurd (let z : ◌≡◌ {A = ℕ} 0 1 = cc in omega arith))
-      (λ e d. absurd (let z : ◌≡◌ {A = ℕ} 0 1 = cc in omega arith))
-      (λ e d. (refl, cc, not-true taken (and_parts (eqb c 0) (not taken) (and_parts (ltb b 64) (eqb c 0 && not taken) e).1).1, ltb-true b 64 (and_parts (ltb b 64) (eqb c 0 && not taken) e).0))
-      (λ e d. absurd (let z : ◌≡◌ {A = ℕ} 0 1 = cc in omega arith))
-      (λ e d. absurd (let z : ◌≡◌ {A = ℕ} 0 1 = cc in omega arith))
-      (λ e d. absurd (let z : ◌≡◌ {A = ℕ} 0 1 = cc in omega arith))
-      (λ e d. absurd (let z : ◌≡◌ {A = ℕ} 0 1 = cc in omega arith))
-      (λ e d. absurd (let z : ◌≡◌ {A = ℕ} 0 1 = cc in omega arith))
-      (λ e d. absurd (let z : ◌≡◌ {A = ℕ} 0 1 = cc in omega arith))
-      k (fitting_kind k e) e d
+  -- a name is one of 64, and had no entry before
+  fitting_name : (m : ℕ) (o : Option Kind) → fitting n concepts i o b c ≡ true → decode o b c ≡ Name m → (is_name o ≡ true) × (b ≡ m) × (named concepts i b ≡ false) × (b < 64)
+  fitting_name m (Some kind.Name) e d =
+      let h = and_parts (ltb b 64) (eqb c 0 && not (named concepts i b)) e in
+      (refl, cc, not-true (named concepts i b) (and_parts (eqb c 0) (not (named concepts i b)) h.1).1, ltb-true b 64 h.0)
+  fitting_name m o e d = absurd (let z : ◌≡◌ {A = ℕ} 0 1 = cc in omega arith)
 
 halves : (k : ℕ) → (2 * (k / 2) ≡ k) ⊎ (2 * (k / 2) + 1 ≡ k)
 halves k = ⊎_elim (λ l. inl (omega arith)) (λ g. inr (omega arith)) (cases_lt (k % 2) 1)
@@ -105,21 +71,21 @@ halves k = ⊎_elim (λ l. inl (omega arith)) (λ g. inr (omega arith)) (cases_l
 module _ (roles pairs concepts rules : List ℕ) (G : Good roles pairs concepts rules) where
   -- the record of an entry fits
   fits : (i : ℕ) → i < length concepts / 4
-      → fitting (length roles) i (named concepts i (get_or concepts (4 * i + 1) 0)) (get_or concepts (4 * i) 0) (get_or concepts (4 * i + 1) 0) (get_or concepts (4 * i + 2) 0) ≡ true
+      → fitting (length roles) concepts i (kind_of (get_or concepts (4 * i) 0)) (get_or concepts (4 * i + 1) 0) (get_or concepts (4 * i + 2) 0) ≡ true
   fits i l = (and_parts _ _ (not-false _ (G.concepts_good i l))).0
 
   lower : length concepts % 4 ≡ 0 → (i : ℕ) → Lower i (concept_at concepts i)
-  unfolding decode
+  unfolding kind_of
   lower whole i = ⊎_elim
-      (λ l. fitting_lower (length roles) i _ _ _ _ (fits i l))
-      (λ g. subst (λ k. Lower i (decode k (get_or concepts (4 * i + 1) 0) (get_or concepts (4 * i + 2) 0))) (sym (get_or_past concepts (4 * i) 0 (omega arith))) tt)
+      (λ l. fitting_lower (length roles) concepts i _ _ _ (fits i l))
+      (λ g. subst (λ k. Lower i (decode (kind_of k) (get_or concepts (4 * i + 1) 0) (get_or concepts (4 * i + 2) 0))) (sym (get_or_past concepts (4 * i) 0 (omega arith))) tt)
       (cases_lt i (length concepts / 4))
 
-  -- an entry is a name: its kind is 2, its operand the name, no entry before has it, and it is one of 64
+  -- an entry is a name: its kind is that of names, its operand the name, no entry before has it, and it is one of 64
   name_at : (i m : ℕ) → i < length concepts / 4 → concept_at concepts i ≡ Name m
-      → (get_or concepts (4 * i) 0 ≡ 2) × (get_or concepts (4 * i + 1) 0 ≡ m) × (named concepts i m ≡ false) × (m < 64)
+      → (is_name (kind_of (get_or concepts (4 * i) 0)) ≡ true) × (get_or concepts (4 * i + 1) 0 ≡ m) × (named concepts i m ≡ false) × (m < 64)
   name_at i m l e =
-      let f = fitting_name (length roles) i (named concepts i (get_or concepts (4 * i + 1) 0)) (get_or concepts (4 * i + 1) 0) (get_or concepts (4 * i + 2) 0) m (get_or concepts (4 * i) 0) (fits i l) e in
+      let f = fitting_name (length roles) concepts i (get_or concepts (4 * i + 1) 0) (get_or concepts (4 * i + 2) 0) m (kind_of (get_or concepts (4 * i) 0)) (fits i l) e in
       (f.0, f.1, subst (λ b. named concepts i b ≡ false) f.1 f.2, omega (arith, f.1, f.3))
 
   never_after : (i j m : ℕ) → i < j → j < length concepts / 4 → concept_at concepts i ≡ Name m → concept_at concepts j ≡ Name m → ⊥
@@ -128,7 +94,7 @@ module _ (roles pairs concepts rules : List ℕ) (G : Good roles pairs concepts 
       let a = name_at i m (omega arith) e in
       let b = name_at j m u f in
       both_ways (named concepts j m) b.2
-      (any_from j i _ l (and_from _ _ (eq-eqb _ 2 a.0) (eq-eqb _ m a.1)))
+      (any_from j i _ l (and_from _ _ a.0 (eq-eqb _ m a.1)))
 
   names_once : (i j m : ℕ) → i < length concepts / 4 → j < length concepts / 4 → concept_at concepts i ≡ Name m → concept_at concepts j ≡ Name m → i ≡ j
   names_once i j m l u e f = ⊎_elim
@@ -145,7 +111,7 @@ module _ (roles pairs concepts rules : List ℕ) (G : Good roles pairs concepts 
       (λ (odd : 2 * (k / 2) + 1 ≡ k). subst (λ j. get_or pairs j 0 < length roles) odd (ltb-true _ _ h.1))
       (halves k)
 
-  pub sound : length concepts % 4 ≡ 0 → length roles ≤ 64 → 4 ≤ length concepts → length concepts ≤ 240 → length rules ≤ 64
+  pub sound : length concepts % 4 ≡ 0 → length roles ≤ most_roles → 4 ≤ length concepts → length concepts ≤ 4 * most_entries → length rules ≤ 2 * most_rules
       → Sound (says (record { roles = roles; pairs = pairs; concepts = concepts; rules = rules }))
   sound whole few some many short = record {
     few_roles = few;
@@ -153,7 +119,7 @@ module _ (roles pairs concepts rules : List ℕ) (G : Good roles pairs concepts 
     few_entries = omega arith;
     few_rules = omega arith;
     lower = lower whole;
-    roles_in = λ i r a q l e. fitting_role (length roles) i _ (get_or concepts (4 * i + 1) 0) (get_or concepts (4 * i + 2) 0) q r a (get_or concepts (4 * i) 0) (fits i l) e;
+    roles_in = λ i r a q l e. fitting_role (length roles) concepts i (get_or concepts (4 * i + 1) 0) (get_or concepts (4 * i + 2) 0) q r a (kind_of (get_or concepts (4 * i) 0)) (fits i l) e;
     names_in = λ i m l e. (name_at i m l e).3;
     names_once = names_once;
     premises_in = λ k l. ltb-true _ _ (and_parts _ _ (not-false _ (G.rules_good k l))).0;

@@ -1,14 +1,14 @@
 -- The parts of a book laid end to end are the book.
-use Rattle.std.proofs.Common.{◌≡◌, ℕ, ◌+◌, ◌-◌, ◌*◌, ◌<◌, ◌≤◌, List, [], ◌∷◌, ◌++◌, length, drop, sym, refl, ap, ◌∙◌, subst, ⊎_elim, arith}
+use Rattle.std.proofs.Common.{◌≡◌, ℕ, ◌+◌, ◌-◌, ◌<◌, ◌≤◌, List, [], ◌∷◌, ◌++◌, length, drop, sym, refl, ap, ◌∙◌, subst, ⊎_elim, arith}
 use Rattle.std.proofs.lemmas.List.{take-append-drop, drop-drop, drop_all, length-take-le, length-drop}
 use Rattle.std.proofs.lemmas.Bool.{lt-ltb, le-ltb, cases_lt}
 use Rattle.denial.specs.Denials.{Answer, granted, denied, and_then}
 use Rattle.denial.specs.declared.Report.{Report}
 use Rattle.book.specs.declared.trailer.Layout.{Layout}
 use Rattle.book.specs.Sections.{Sections}
-use Rattle.book.specs.Layouts.{laying, layout_of, trailer_start, Laid}
+use Rattle.book.specs.Layouts.{laying, layout_of, Laid}
 use Rattle.book.specs.Reading.{cut, reading, checking, sections_of}
-use Rattle.book.specs.Pieces.{Kind, Piece, piece, note_at, of_roles, of_pairs, of_concepts, of_rules, of_note, of_trailer, pieces_from_roles, parts_of, EndToEnd, Tiles}
+use Rattle.book.specs.Pieces.{Kind, Piece, piece, note_at, of_note, Span, spans, pieces_from, parts_of, EndToEnd, Tiles}
 use Rattle.book.proofs.Layouting.{laid_from}
 
 module _ (bytes : List ℕ) where
@@ -34,19 +34,22 @@ module _ (bytes : List ℕ) where
       (λ more. let same : j ≡ at = omega arith in rw (le-ltb at j more) (subst (λ m. EndToEnd m ps (drop m bytes)) same e))
       (cases_lt at j)
 
-  tiled : (l : Layout) → Laid (length bytes) l → EndToEnd 0 (pieces_from_roles bytes l 0) bytes
-  tiled l g =
-      note_more 0 l.roles.place _ (omega arith) (omega arith)
-      (one_more of_roles l.roles.place l.roles.count _ (omega arith)
-      (note_more _ l.pairs.place _ g.roles_end (omega arith)
-      (one_more of_pairs l.pairs.place (2 * l.pairs.count) _ (omega arith)
-      (note_more _ l.concepts.place _ g.pairs_end (omega arith)
-      (one_more of_concepts l.concepts.place (4 * l.concepts.count) _ (omega arith)
-      (note_more _ l.rules.place _ g.concepts_end (omega arith)
-      (one_more of_rules l.rules.place (2 * l.rules.count) _ (omega arith)
-      (note_more _ (trailer_start bytes) _ (omega arith) (omega arith)
-      (one_more of_trailer (trailer_start bytes) 16 [] (omega arith)
-      (drop_all (trailer_start bytes + 16) bytes (omega arith)))))))))))
+  -- the parts lie one after the other from `at` on, within the bytes and to their end
+  abbrev InOrder : ℕ → List Span → Type 0
+  InOrder at [] = length bytes ≤ at
+  InOrder at (s ∷ rest) = (at ≤ s.place) × (s.place + s.size ≤ length bytes) × InOrder (s.place + s.size) rest
+
+  all_tile : (at : ℕ) (ss : List Span) → InOrder at ss → EndToEnd at (pieces_from bytes at ss) (drop at bytes)
+  all_tile at [] o = drop_all at bytes o
+  all_tile at (s ∷ rest) o =
+      note_more at s.place _ o.0 (omega (arith, o.1)) (one_more s.kind s.place s.size _ o.1 (all_tile (s.place + s.size) rest o.2))
+
+  tiled : (l : Layout) → Laid (length bytes) l → EndToEnd 0 (pieces_from bytes 0 (spans bytes l)) bytes
+  tiled l g = all_tile 0 (spans bytes l) (
+    omega arith,
+    omega arith,
+    (g.roles_end, omega arith, (g.pairs_end, omega arith, (g.concepts_end, omega arith, (omega arith, omega arith, omega arith)))),
+  )
 
   -- a book that is read has a layout
   layout_of_read : (s : Sections) → reading bytes ≡ granted s → Laid (length bytes) (layout_of bytes)
@@ -57,7 +60,7 @@ module _ (bytes : List ℕ) where
       go (granted l) f h = (laid_from bytes l f).1
       go (denied r) f h = absurd (let z : ◌≡◌ {A = ℕ} 0 1 = cc in omega arith)
 
-  pub parts_of_read : (s : Sections) → reading bytes ≡ granted s → parts_of bytes ≡ pieces_from_roles bytes (layout_of bytes) 0
+  pub parts_of_read : (s : Sections) → reading bytes ≡ granted s → parts_of bytes ≡ pieces_from bytes 0 (spans bytes (layout_of bytes))
   unfolding parts_of
   parts_of_read s e = rw e
 
@@ -65,5 +68,5 @@ module _ (bytes : List ℕ) where
   unfolding parts_of
   parts_of_refused r e = rw (← e)
 
-  pub tiles : Tiles bytes
-  tiles s e = subst (λ ps. EndToEnd 0 ps bytes) (sym (parts_of_read s e)) (tiled (layout_of bytes) (layout_of_read s e))
+  pub tiles : (ps : List Piece) → ps ≡ parts_of bytes → Tiles bytes ps
+  tiles ps e s r = subst (λ ps. EndToEnd 0 ps bytes) (sym (e ∙ parts_of_read s r)) (tiled (layout_of bytes) (layout_of_read s r))

@@ -1,9 +1,10 @@
 -- The layout of a book by its trailer, and what is refused of it.
 use Rattle.std.specs.Prelude.{◌≡◌, ℕ, ◌+◌, ◌-◌, ◌*◌, ◌≤◌, Bool, cond, ◌&&◌, ◌||◌, List, [], ◌∷◌, length, Some, None, Option, ◌==◌, nat_le, nat_lt, slice_index}
 use Rattle.denial.specs.declared.Report.{Report}
-use Rattle.denial.specs.declared.Layer.TheVariants.{Trailer}
-use Rattle.denial.specs.Denials.{Answer, granted, denied, reported}
+use Rattle.denial.specs.declared.TrailerDenial.TheVariants.{Length, Count, Place}
+use Rattle.denial.specs.Denials.{Answer, granted, denied, trailer_report}
 use Rattle.meaning.specs.Bounded.{first}
+use Rattle.book.specs.Limits.{most_roles, most_pairs, most_entries, most_rules}
 use Rattle.book.specs.declared.trailer.Section.{Section}
 use Rattle.book.specs.declared.trailer.Layout.{Layout}
 
@@ -27,7 +28,7 @@ abbrev pub least : ℕ → ℕ
 least j = slice_index (0 ∷ 0 ∷ 1 ∷ 0 ∷ []) j
 
 abbrev pub most : ℕ → ℕ
-most j = slice_index (64 ∷ 256 ∷ 60 ∷ 32 ∷ []) j
+most j = slice_index (most_roles ∷ most_pairs ∷ most_entries ∷ most_rules ∷ []) j
 
 abbrev pub width : ℕ → ℕ
 width j = slice_index (1 ∷ 2 ∷ 4 ∷ 2 ∷ []) j
@@ -57,19 +58,19 @@ unless_bad (Some k) report rest = denied (report k)
 unfoldable pub laying : List ℕ → Answer Layout
 laying bytes =
     cond (nat_le 16 (length bytes) && nat_le (length bytes) 8192)
-    (unless_bad (first 4 (bad_count bytes)) (λ j. reported 2 (trailer_start bytes + 4 * j + 2) Trailer)
-    (unless_bad (first 4 (bad_place bytes)) (λ j. reported 3 (trailer_start bytes + 4 * j) Trailer)
+    (unless_bad (first 4 (bad_count bytes)) (λ j. trailer_report (Count (trailer_start bytes + 4 * j + 2)))
+    (unless_bad (first 4 (bad_place bytes)) (λ j. trailer_report (Place (trailer_start bytes + 4 * j)))
     (granted (layout_of bytes))))
-    (denied (reported 1 (length bytes) Trailer))
+    (denied (trailer_report (Length (length bytes))))
 
 -- what a layout that was granted is, in a book of so many bytes
 pub record Laid (size : ℕ) (l : Layout) : Type 0 where
   pub short : size ≤ 8192
-  pub few_roles : l.roles.count ≤ 64
-  pub few_pairs : l.pairs.count ≤ 256
+  pub few_roles : l.roles.count ≤ most_roles
+  pub few_pairs : l.pairs.count ≤ most_pairs
   pub some_concepts : 1 ≤ l.concepts.count
-  pub few_concepts : l.concepts.count ≤ 60
-  pub few_rules : l.rules.count ≤ 32
+  pub few_concepts : l.concepts.count ≤ most_entries
+  pub few_rules : l.rules.count ≤ most_rules
   pub roles_end : l.roles.place + l.roles.count ≤ l.pairs.place
   pub pairs_end : l.pairs.place + 2 * l.pairs.count ≤ l.concepts.place
   pub concepts_end : l.concepts.place + 4 * l.concepts.count ≤ l.rules.place

@@ -1,5 +1,5 @@
 -- The parts of a book, as pieces of its bytes.
-use Rattle.std.specs.Prelude.{◌≡◌, ℕ, ◌+◌, ◌-◌, ◌*◌, cond, List, [], ◌∷◌, ◌++◌, length, nat_lt}
+use Rattle.std.specs.Prelude.{◌≡◌, ℕ, ◌+◌, ◌-◌, ◌*◌, cond, List, [], ◌∷◌, ◌++◌, length, drop, nat_lt}
 use Rattle.denial.specs.Denials.{Answer, granted, denied}
 use Rattle.book.specs.declared.parts.Part.{Part}
 use Rattle.book.specs.declared.parts.Part.TheVariants.{Roles, Pairs, Concepts, Rules, Note, Trailer}
@@ -34,60 +34,47 @@ seen (Trailer p b) = piece of_trailer p b.now
 abbrev pub note_at : List ℕ → ℕ → ℕ → List Piece
 note_at bytes i j = cond (nat_lt i j) (piece of_note i (cut bytes i (j - i)) ∷ []) []
 
--- where the next part that is no note starts
-abbrev pub target_of : List ℕ → Layout → Stage → ℕ
-target_of bytes l AtRoles = l.roles.place
-target_of bytes l AtPairs = l.pairs.place
-target_of bytes l AtConcepts = l.concepts.place
-target_of bytes l AtRules = l.rules.place
-target_of bytes l AtTrailer = trailer_start bytes
-target_of bytes l AtEnd = 0
+-- a part that is no note: its kind, where it starts, how many bytes it has
+pub record Span : Type 0 where
+  pub kind : Kind
+  pub place : ℕ
+  pub size : ℕ
 
--- and how many bytes it has
-abbrev pub size_of : Layout → Stage → ℕ
-size_of l AtRoles = l.roles.count
-size_of l AtPairs = 2 * l.pairs.count
-size_of l AtConcepts = 4 * l.concepts.count
-size_of l AtRules = 2 * l.rules.count
-size_of l AtTrailer = 16
-size_of l AtEnd = 0
+abbrev pub span : Kind → ℕ → ℕ → Span
+span k p n = record { kind = k; place = p; size = n }
 
--- what comes from the byte `at` on: a note, if there are bytes before the next section, then the section, and so on
-module _ (bytes : List ℕ) (l : Layout) where
-  abbrev pub pieces_from_trailer : ℕ → List Piece
-  pieces_from_trailer at = note_at bytes at (trailer_start bytes) ++ piece of_trailer (trailer_start bytes) (cut bytes (trailer_start bytes) 16) ∷ []
+-- these parts of a book, in their order
+abbrev pub spans : List ℕ → Layout → List Span
+spans bytes l =
+    span of_roles l.roles.place l.roles.count
+    ∷ span of_pairs l.pairs.place (2 * l.pairs.count)
+    ∷ span of_concepts l.concepts.place (4 * l.concepts.count)
+    ∷ span of_rules l.rules.place (2 * l.rules.count)
+    ∷ span of_trailer (trailer_start bytes) 16
+    ∷ []
 
-  abbrev pub pieces_from_rules : ℕ → List Piece
-  pieces_from_rules at =
-      note_at bytes at l.rules.place
-      ++ piece of_rules l.rules.place (cut bytes l.rules.place (2 * l.rules.count)) ∷ pieces_from_trailer (l.rules.place + 2 * l.rules.count)
+-- what comes from the byte `at` on: before each of these parts a note, if there are bytes before it
+abbrev pub pieces_from : List ℕ → ℕ → List Span → List Piece
+pieces_from bytes at [] = []
+pieces_from bytes at (s ∷ rest) = note_at bytes at s.place ++ piece s.kind s.place (cut bytes s.place s.size) ∷ pieces_from bytes (s.place + s.size) rest
 
-  abbrev pub pieces_from_concepts : ℕ → List Piece
-  pieces_from_concepts at =
-      note_at bytes at l.concepts.place
-      ++ piece of_concepts l.concepts.place (cut bytes l.concepts.place (4 * l.concepts.count)) ∷ pieces_from_rules (l.concepts.place + 4 * l.concepts.count)
+-- those of them that are left at a stage
+abbrev pub left : List ℕ → Layout → Stage → List Span
+left bytes l AtRoles = spans bytes l
+left bytes l AtPairs = drop 1 (spans bytes l)
+left bytes l AtConcepts = drop 2 (spans bytes l)
+left bytes l AtRules = drop 3 (spans bytes l)
+left bytes l AtTrailer = drop 4 (spans bytes l)
+left bytes l AtEnd = []
 
-  abbrev pub pieces_from_pairs : ℕ → List Piece
-  pieces_from_pairs at =
-      note_at bytes at l.pairs.place
-      ++ piece of_pairs l.pairs.place (cut bytes l.pairs.place (2 * l.pairs.count)) ∷ pieces_from_concepts (l.pairs.place + 2 * l.pairs.count)
-
-  abbrev pub pieces_from_roles : ℕ → List Piece
-  pieces_from_roles at =
-      note_at bytes at l.roles.place
-      ++ piece of_roles l.roles.place (cut bytes l.roles.place l.roles.count) ∷ pieces_from_pairs (l.roles.place + l.roles.count)
-
-  abbrev pub coming : Stage → ℕ → List Piece
-  coming AtRoles at = pieces_from_roles at
-  coming AtPairs at = pieces_from_pairs at
-  coming AtConcepts at = pieces_from_concepts at
-  coming AtRules at = pieces_from_rules at
-  coming AtTrailer at = pieces_from_trailer at
-  coming AtEnd at = []
+-- where the first of them starts, and how many bytes it has; 0 and 0 where none is left
+abbrev pub first_span : List Span → ℕ × ℕ
+first_span [] = (0, 0)
+first_span (s ∷ rest) = (s.place, s.size)
 
 -- the parts of a book that is read; none of one that is refused
 abbrev pub parts_if : Answer Sections → List ℕ → List Piece
-parts_if (granted s) bytes = pieces_from_roles bytes (layout_of bytes) 0
+parts_if (granted s) bytes = pieces_from bytes 0 (spans bytes (layout_of bytes))
 parts_if (denied r) bytes = []
 
 unfoldable pub parts_of : List ℕ → List Piece
@@ -98,6 +85,6 @@ abbrev pub EndToEnd : ℕ → List Piece → List ℕ → Type 0
 EndToEnd at [] bytes = bytes ≡ []
 EndToEnd at (p ∷ ps) bytes = (rest : List ℕ) × (p.place ≡ at) × (bytes ≡ p.bytes ++ rest) × EndToEnd (at + length p.bytes) ps rest
 
--- where the book is read, its parts laid end to end are the book
-abbrev pub Tiles : List ℕ → Type 0
-Tiles bytes = (s : Sections) → reading bytes ≡ granted s → EndToEnd 0 (parts_of bytes) bytes
+-- where the book is read, these parts laid end to end are the book
+abbrev pub Tiles : List ℕ → List Piece → Type 0
+Tiles bytes parts = (s : Sections) → reading bytes ≡ granted s → EndToEnd 0 parts bytes

@@ -1,7 +1,7 @@
 -- Reading a book: its sections, or the first refusal.
 use Rattle.std.specs.Prelude.{ℕ, ◌+◌, ◌*◌, ◌/◌, List, length, take, drop}
-use Rattle.denial.specs.declared.Layer.TheVariants.{Records}
-use Rattle.denial.specs.Denials.{Answer, granted, reported, and_then}
+use Rattle.denial.specs.declared.RecordDenial.TheVariants.{Role, Pair, Concept, Rule}
+use Rattle.denial.specs.Denials.{Answer, granted, record_report, and_then}
 use Rattle.book.specs.declared.trailer.Layout.{Layout}
 use Rattle.book.specs.Sections.{Sections}
 use Rattle.book.specs.Records.{lowest_bad_role, lowest_unfit, lowest_bad_concept}
@@ -22,10 +22,10 @@ sections_of bytes l = record {
 -- the sections, or the first bad record: roles, then pairs, then concepts, then rules; the detail is its first byte
 unfoldable pub checking : Layout → Sections → Answer Sections
 checking l s =
-    unless_bad (lowest_bad_role s.roles) (λ k. reported 4 (l.roles.place + k) Records)
-    (unless_bad (lowest_unfit (length s.roles) s.pairs) (λ k. reported 5 (l.pairs.place + 2 * k) Records)
-    (unless_bad (lowest_bad_concept (length s.roles) s.concepts) (λ k. reported 6 (l.concepts.place + 4 * k) Records)
-    (unless_bad (lowest_unfit (length s.concepts / 4) s.rules) (λ k. reported 7 (l.rules.place + 2 * k) Records)
+    unless_bad (lowest_bad_role s.roles) (λ k. record_report (Role (l.roles.place + k)))
+    (unless_bad (lowest_unfit (length s.roles) s.pairs) (λ k. record_report (Pair (l.pairs.place + 2 * k)))
+    (unless_bad (lowest_bad_concept (length s.roles) s.concepts) (λ k. record_report (Concept (l.concepts.place + 4 * k)))
+    (unless_bad (lowest_unfit (length s.concepts / 4) s.rules) (λ k. record_report (Rule (l.rules.place + 2 * k)))
     (granted s))))
 
 -- the book in the bytes, or the first refusal; what the trailer's layer refuses is handed on whole

@@ -1,6 +1,9 @@
 -- Which records are bad, and the first of them.
-use Rattle.std.specs.Prelude.{ℕ, ◌+◌, ◌*◌, ◌/◌, Bool, false, cond, not, ◌&&◌, List, length, is_some, Option, ◌==◌, nat_lt, slice_index}
+use Rattle.std.specs.Prelude.{ℕ, ◌+◌, ◌*◌, ◌/◌, Bool, false, not, ◌&&◌, List, length, is_some, Some, None, Option, ◌==◌, nat_lt, slice_index}
 use Rattle.meaning.specs.Bounded.{any, first}
+use Rattle.book.specs.declared.kind.Kind.{Kind}
+use Rattle.book.specs.declared.kind.Kind.TheVariants.{Nothing, Everything, Name, Not, And, Or, Exists, Forall, NoneOf}
+use Rattle.book.specs.Kinds.{kind_of, is_name}
 
 -- a role: 0 plain, 1 transitive
 abbrev pub bad_role : List ℕ → ℕ → Bool
@@ -16,20 +19,24 @@ unfit n records k = not (both_within n records k)
 
 -- an entry before i has the name b
 unfoldable pub named : List ℕ → ℕ → ℕ → Bool
-named concepts i b = any i (λ j. (slice_index concepts (4 * j) == 2) && slice_index concepts (4 * j + 1) == b)
+named concepts i b = any i (λ j. is_name (kind_of (slice_index concepts (4 * j))) && slice_index concepts (4 * j + 1) == b)
 
--- the operands that a kind may have in entry i of a book with n roles; `taken` says that the name has an entry already
-unfoldable pub fitting : ℕ → ℕ → Bool → ℕ → ℕ → ℕ → Bool
-fitting n i taken kind b c =
-    cond (nat_lt kind 2) (b == 0 && c == 0)
-    (cond (kind == 2) (nat_lt b 64 && (c == 0 && not taken))
-    (cond (kind == 3) (nat_lt b i && c == 0)
-    (cond (nat_lt kind 6) (nat_lt b i && nat_lt c i)
-    (cond (nat_lt kind 9) (nat_lt b n && nat_lt c i) false))))
+-- the operands that an entry of a kind may have as entry i of a book with n roles; a name is one that no entry before i has
+abbrev pub fitting : ℕ → List ℕ → ℕ → Option Kind → ℕ → ℕ → Bool
+fitting n concepts i (Some Nothing) b c = b == 0 && c == 0
+fitting n concepts i (Some Everything) b c = b == 0 && c == 0
+fitting n concepts i (Some Name) b c = nat_lt b 64 && (c == 0 && not (named concepts i b))
+fitting n concepts i (Some Not) b c = nat_lt b i && c == 0
+fitting n concepts i (Some And) b c = nat_lt b i && nat_lt c i
+fitting n concepts i (Some Or) b c = nat_lt b i && nat_lt c i
+fitting n concepts i (Some Exists) b c = nat_lt b n && nat_lt c i
+fitting n concepts i (Some Forall) b c = nat_lt b n && nat_lt c i
+fitting n concepts i (Some NoneOf) b c = nat_lt b n && nat_lt c i
+fitting n concepts i None b c = false
 
 abbrev pub fitting_at : ℕ → List ℕ → ℕ → Bool
 fitting_at n concepts i =
-    fitting n i (named concepts i (slice_index concepts (4 * i + 1))) (slice_index concepts (4 * i)) (slice_index concepts (4 * i + 1)) (slice_index concepts (4 * i + 2))
+    fitting n concepts i (kind_of (slice_index concepts (4 * i))) (slice_index concepts (4 * i + 1)) (slice_index concepts (4 * i + 2))
 
 -- a concept entry: kind, two operands, and a last byte that is 0
 abbrev pub bad_concept : ℕ → List ℕ → ℕ → Bool

@@ -1,5 +1,7 @@
 // The kinds of a concept entry, each of which a record writes as a byte.
-ghost use Rattle.book.specs.Kinds.{Numbered};
+ghost use Rattle.std.specs.Prelude.{◌≡◌};
+ghost use Rattle.std.specs.Result.{result_ok};
+ghost use Rattle.book.specs.Kinds.{kind_of};
 
 #[derive(Clone, Copy, Debug, PartialEq, Eq)]
 pub(crate) enum Kind {
@@ -21,8 +23,9 @@ pub(crate) struct UnknownKind;
 impl TryFrom<u8> for Kind {
     type Error = UnknownKind;
 
-    ghost try_from_gives = { Numbered };
+    ghost try_from_gives = { λ byte r. result_ok r ≡ kind_of byte };
 
+    #[tactic(auto, unfolding(crate::specs::Kinds::kind_of))]
     fn try_from(byte: u8) -> Result<Self, UnknownKind> {
         match byte {
             0 => Ok(Kind::Nothing),

@@ -2,6 +2,7 @@
 #![tactic(auto)]
 
 ghost use Rattle.std.specs.Prelude.{◌≡◌, ◌*◌, ◌<◌, ◌≤◌, true, length, take};
+ghost use Rattle.book.specs.Limits.{most_roles, most_pairs, most_entries, most_rules};
 ghost use Rattle.book.specs.Layouts.{Whole};
 ghost use Rattle.book.specs.Records.{faultless};
 
@@ -11,12 +12,21 @@ mod kind;
 pub mod parts;
 pub mod read;
 mod records;
-pub mod trailer;
+mod trailer;
 
 // The two records of a role: reading lets no other byte pass.
 pub const PLAIN: u8 = 0;
 
 pub const TRANSITIVE: u8 = 1;
+
+// The most records that each section may have.
+const ROLES: usize = 64;
+
+const PAIRS: usize = 256;
+
+const ENTRIES: usize = 60;
+
+const RULES: usize = 32;
 
 // How many records each section has.
 #[derive(Clone, Copy)]
@@ -32,19 +42,19 @@ struct Counts {
 #[derive(Clone, Copy)]
 pub struct Book {
     counts: Counts,
-    roles: [u8; 64],
-    pairs: [u8; 512],
-    concepts: [u8; 240],
-    rules: [u8; 64],
-    ghost roles_long: { length roles ≡ 64 },
-    ghost pairs_long: { length pairs ≡ 512 },
-    ghost concepts_long: { length concepts ≡ 240 },
-    ghost rules_long: { length rules ≡ 64 },
-    ghost few_roles: { counts.roles ≤ 64 },
-    ghost few_pairs: { counts.pairs ≤ 256 },
+    roles: [u8; ROLES],
+    pairs: [u8; 2 * PAIRS],
+    concepts: [u8; 4 * ENTRIES],
+    rules: [u8; 2 * RULES],
+    ghost roles_long: { length roles ≡ most_roles },
+    ghost pairs_long: { length pairs ≡ 2 * most_pairs },
+    ghost concepts_long: { length concepts ≡ 4 * most_entries },
+    ghost rules_long: { length rules ≡ 2 * most_rules },
+    ghost few_roles: { counts.roles ≤ most_roles },
+    ghost few_pairs: { counts.pairs ≤ most_pairs },
     ghost some_entries: { 0 < counts.entries },
-    ghost few_entries: { counts.entries ≤ 60 },
-    ghost few_rules: { counts.rules ≤ 32 },
+    ghost few_entries: { counts.entries ≤ most_entries },
+    ghost few_rules: { counts.rules ≤ most_rules },
     ghost good: { faultless (take counts.roles roles) (take (2 * counts.pairs) pairs) (take (4 * counts.entries) concepts) (take (2 * counts.rules) rules) ≡ true },
 }
 

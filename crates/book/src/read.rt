@@ -2,6 +2,7 @@
 ghost use Rattle.std.specs.Prelude.{◌≡◌, ◌+◌, ◌/◌, ◌<◌, ◌≤◌, true, length, take, IfSome, IfOk, OnOk};
 ghost use Rattle.denial.specs.Denials.{answer, granted, record_report};
 ghost use Rattle.meaning.specs.Books.{Sound};
+ghost use Rattle.book.specs.Kinds.{kind_of};
 ghost use Rattle.book.specs.Sections.{says};
 ghost use Rattle.book.specs.Records.{named, fitting, lowest_bad_role, lowest_unfit, lowest_bad_concept, faultless};
 ghost use Rattle.book.specs.Layouts.{laying, Laid};
@@ -133,20 +134,19 @@ fn first_bad_concept(roles: usize, concepts: &[u8]) -> Option<usize>
 {
     let (entries, _) = concepts.as_chunks::<4>();
     entries.iter().enumerate().position(|(i, [kind, b, c, last])| {
-        let taken = named_before(concepts, i, *b);
-        !fits(roles, i, taken, *kind, *b, *c) || *last != 0
+        !fits(roles, concepts, i, *kind, *b, *c) || *last != 0
     })
 }
 
-// Whether entry i may have this kind and these operands; `taken` says that an entry before it has the name.
+// Whether entry i may have this kind and these operands.
 // Stays: the kind is a byte of the format until `Kind::try_from` has read it, and a byte of no kind fits nowhere.
-#[tactic(auto, unfolding(crate::specs::Records::fitting))]
-fn fits(roles: usize, i: usize, taken: bool, kind: u8, b: u8, c: u8) -> bool
-    ensures { result ≡ fitting roles i taken kind b c }
+fn fits(roles: usize, concepts: &[u8], i: usize, kind: u8, b: u8, c: u8) -> bool
+    requires { i ≤ length concepts.now / 4 }
+    ensures { result ≡ fitting roles concepts.now i (kind_of kind) b c }
 {
     match Kind::try_from(kind) {
         Ok(Kind::Nothing | Kind::Everything) => b == 0 && c == 0,
-        Ok(Kind::Name) => b < NAMES && c == 0 && !taken,
+        Ok(Kind::Name) => b < NAMES && c == 0 && !named_before(concepts, i, b),
         Ok(Kind::Not) => (b as usize) < i && c == 0,
         Ok(Kind::And | Kind::Or) => (b as usize) < i && (c as usize) < i,
         Ok(Kind::Exists | Kind::Forall | Kind::NoneOf) => (b as usize) < roles && (c as usize) < i,

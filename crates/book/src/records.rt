@@ -1,5 +1,7 @@
 // What a book that was read says: its counts, its concepts and its rules.
-ghost use Rattle.std.specs.Prelude.{◌≡◌, ℕ, ◌/◌, ◌%◌, ◌<◌, ◌≤◌, length, slice_index};
+ghost use Rattle.std.specs.Prelude.{◌≡◌, ℕ, ◌*◌, ◌/◌, ◌%◌, ◌<◌, ◌≤◌, length, slice_index};
+ghost use Rattle.book.specs.Limits.{most_roles, most_pairs};
+ghost use Rattle.book.specs.Kinds.{kind_of};
 ghost use Rattle.book.specs.Sections.{says, decode};
 ghost use Rattle.book.specs.Views.{view};
 
@@ -35,7 +37,7 @@ impl Book {
     // The role section: a byte for each role, `PLAIN` or `TRANSITIVE`.
     pub fn roles(&self) -> &[u8]
         ensures value { result.now ≡ (view self.now).roles }
-        ensures few { length result.now ≤ 64 }
+        ensures few { length result.now ≤ most_roles }
     {
         &self.roles[0..self.counts.roles]
     }
@@ -43,7 +45,7 @@ impl Book {
     // The pair section: two bytes for each told role inclusion, the lower role and the upper one, both of the book.
     pub fn pairs(&self) -> &[u8]
         ensures value { result.now ≡ (view self.now).pairs }
-        ensures few { length result.now ≤ 512 }
+        ensures few { length result.now ≤ 2 * most_pairs }
         ensures whole { length result.now % 2 ≡ 0 }
         ensures inside { (k : ℕ) → k < length result.now → slice_index result.now k < length (view self.now).roles }
     {
@@ -82,9 +84,8 @@ impl Book {
 
 // The concept of a record of this kind, with these operands.
 // Stays: the kind is a byte of the format until `Kind::try_from` has read it, and a byte of no kind is nothing.
-#[tactic(auto, unfolding(crate::specs::Sections::decode))]
 fn decoded(kind: u8, b: u8, c: u8) -> Concept
-    ensures { result ≡ decode kind b c }
+    ensures { result ≡ decode (kind_of kind) b c }
 {
     match Kind::try_from(kind) {
         Ok(Kind::Everything) => Concept::Everything,

@@ -4,24 +4,25 @@ ghost use Rattle.denial.specs.Denials.{answer, trailer_report};
 ghost use Rattle.meaning.specs.Bounded.{first};
 ghost use Rattle.book.specs.Layouts.{number16, section_from, end_of, bad_count, bad_place, laying, Laid};
 
+use crate::{ENTRIES, PAIRS, ROLES, RULES};
 use denial::TrailerDenial;
 
 // A section: the byte where it starts, and how many records it has.
 #[derive(Clone, Copy, Default)]
-pub struct Section {
-    pub place: usize,
-    pub count: usize,
+pub(crate) struct Section {
+    pub(crate) place: usize,
+    pub(crate) count: usize,
 }
 
 #[derive(Clone, Copy, Default)]
-pub struct Layout {
-    pub roles: Section,
-    pub pairs: Section,
-    pub concepts: Section,
-    pub rules: Section,
+pub(crate) struct Layout {
+    pub(crate) roles: Section,
+    pub(crate) pairs: Section,
+    pub(crate) concepts: Section,
+    pub(crate) rules: Section,
 }
 
-pub const TRAILER: usize = 16;
+pub(crate) const TRAILER: usize = 16;
 
 const LONGEST: usize = 8192;
 
@@ -46,28 +47,28 @@ impl Limits {
 const LIMITS: [Limits; 4] = [
     Limits {
         least: 0,
-        most: 64,
+        most: ROLES,
         width: 1,
     },
     Limits {
         least: 0,
-        most: 256,
+        most: PAIRS,
         width: 2,
     },
     Limits {
         least: 1,
-        most: 60,
+        most: ENTRIES,
         width: 4,
     },
     Limits {
         least: 0,
-        most: 32,
+        most: RULES,
         width: 2,
     },
 ];
 
 // The layout of a book, or the first fault in its length, its counts or its places.
-pub fn read_layout(bytes: &[u8]) -> Result<Layout, TrailerDenial>
+pub(crate) fn read_layout(bytes: &[u8]) -> Result<Layout, TrailerDenial>
     ensures value { answer (λ l. l) trailer_report result ≡ laying bytes.now }
     ensures laid { IfOk result (λ l. Laid (length bytes.now) l) }
 {

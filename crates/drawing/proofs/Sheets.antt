@@ -3,8 +3,8 @@ use Rattle.std.proofs.Common.{◌≡◌, ℕ, zero, suc, ◌+◌, ◌-◌, ◌*�
 use Rattle.std.proofs.lemmas.Nat.{mul-add-lt, div_below, mod_below}
 use Rattle.std.proofs.lemmas.Bool.{cases_eq, cases_lt, eq-eqb, ne_eqb, lt-ltb, le-ltb, le-leb, lt-leb, leb-true, and_from, not_from_true, cond-true, cond-false}
 use Rattle.words.specs.Sets.{has, set_of}
-use Rattle.denial.specs.Denials.{granted, denied, reported}
-use Rattle.denial.specs.declared.Layer.TheVariants.{Register}
+use Rattle.denial.specs.Denials.{granted, denied, denial_report}
+use Rattle.denial.specs.declared.Denial.TheVariants.{ShortSheet}
 use Rattle.meaning.specs.Agreement.{Agree}
 use Rattle.meaning.specs.Worlds.{Interpretation, Sized}
 use Rattle.meaning.proofs.Firsts.{first_none}
@@ -91,9 +91,9 @@ granted_is roles m lent W e l = ap granted e ∙ sym (cond-true _ _ _ (suffices 
 
 -- or the number of words needed is reported
 pub denied_is : (roles m lent : ℕ) (W : Interpretation) → m ≡ W.size → lent < needed roles m
-    → denied (reported 11 (needed roles m) Register) ≡ drawing roles W lent
+    → denied (denial_report (ShortSheet (needed roles m))) ≡ drawing roles W lent
 denied_is roles m lent W e l =
-    ap (λ n. denied (reported 11 (needed roles n) Register)) e ∙ sym (cond-false _ _ _ (falls_short roles m lent W e l))
+    ap (λ n. denied (denial_report (ShortSheet (needed roles n)))) e ∙ sym (cond-false _ _ _ (falls_short roles m lent W e l))
 
 -- a world is written down well
 pub drawing_right : DrawingIsRight

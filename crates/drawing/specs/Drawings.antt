@@ -1,8 +1,8 @@
 -- A world written down as a sheet, word by word.
 use Rattle.std.specs.Prelude.{◌≡◌, ℕ, zero, suc, ◌-◌, ◌/◌, ◌%◌, true, cond, List, [], ◌∷◌, ◌++◌, length, drop, ◌==◌, nat_le, nat_lt, slice_index_or}
 use Rattle.words.specs.Sets.{set_of}
-use Rattle.denial.specs.Denials.{Answer, granted, denied, reported}
-use Rattle.denial.specs.declared.Layer.TheVariants.{Register}
+use Rattle.denial.specs.Denials.{Answer, granted, denied, denial_report}
+use Rattle.denial.specs.declared.Denial.TheVariants.{ShortSheet}
 use Rattle.meaning.specs.Worlds.{Interpretation, Sized}
 use Rattle.meaning.specs.Agreement.{Agree}
 use Rattle.sheet.specs.Sheets.{needed, sheet_of, written}
@@ -26,9 +26,9 @@ unfoldable pub drawn_on : ℕ → Interpretation → List ℕ → List ℕ
 drawn_on roles W words =
     cond (nat_le (needed roles W.size) (length words)) (words_of W (needed roles W.size) ++ drop (needed roles W.size) words) words
 
--- how many individuals were written; refused with 11 and the number of words needed where they are too few
+-- how many individuals were written; refused with the number of words needed where they are too few
 abbrev pub drawing : ℕ → Interpretation → ℕ → Answer ℕ
-drawing roles W lent = cond (nat_le (needed roles W.size) lent) (granted W.size) (denied (reported 11 (needed roles W.size) Register))
+drawing roles W lent = cond (nat_le (needed roles W.size) lent) (granted W.size) (denied (denial_report (ShortSheet (needed roles W.size))))
 
 -- What was written is a good sheet, of as many individuals, and the world on it agrees with the one that was to be written.
 pub record Drawn (roles : ℕ) (W : Interpretation) (words : List ℕ) : Type 0 where

@@ -3,8 +3,8 @@ use Rattle.std.proofs.Common.{refl}
 use Rattle.words.specs.Sets.{has, set_of}
 use Rattle.meaning.specs.Bounded.{any, all, first}
 use Rattle.meaning.specs.Chains.{reach}
-use Rattle.book.specs.Sections.{decode}
-use Rattle.book.specs.Records.{named, fitting}
+use Rattle.book.specs.Kinds.{kind_of}
+use Rattle.book.specs.Records.{named}
 use Rattle.book.specs.Layouts.{number16, section_from, laying}
 use Rattle.book.specs.Reading.{checking, reading}
 use Rattle.roles.specs.Told.{told}
@@ -24,7 +24,7 @@ use Rattle.runs.specs.Examples.{RegisterExamples}
 
 -- each by computing it
 pub register_examples : RegisterExamples
-unfolding has set_of any all first reach decode named fitting number16 section_from laying checking reading told closure fold gather empty in_label put contains any_contains lowest clash taken branch expand expansions told_propagated seed_of or_else and_then reuse pursue meet_from try_each enter explore leads edge joined borne propagated_list entry_of propagates_of word_at words_of drawn_on apart compared placed placing asking showing history
+unfolding has set_of any all first reach kind_of named number16 section_from laying checking reading told closure fold gather empty in_label put contains any_contains lowest clash taken branch expand expansions told_propagated seed_of or_else and_then reuse pursue meet_from try_each enter explore leads edge joined borne propagated_list entry_of propagates_of word_at words_of drawn_on apart compared placed placing asking showing history
 register_examples = record {
   a_nothing = refl;
   a_room = refl;

@@ -4,8 +4,8 @@
 use Rattle.std.specs.Prelude.{ℕ, ◌+◌, ◌*◌, ◌^◌, min, max, Bool, cond, not, ◌&&◌, List, length, Some, None, Option, nat_lt, slice_index}
 use Rattle.std.proofs.Common.{arith}
 use Rattle.words.specs.Sets.{has}
-use Rattle.denial.specs.Denials.{Answer, granted, denied, reported}
-use Rattle.denial.specs.declared.Layer.TheVariants.{Register}
+use Rattle.denial.specs.Denials.{Answer, granted, denied, denial_report}
+use Rattle.denial.specs.declared.Denial.TheVariants.{Sheet}
 use Rattle.meaning.specs.Bounded.{first}
 use Rattle.meaning.specs.Worlds.{Interpretation, Sized}
 
@@ -22,7 +22,7 @@ abbrev pub lowest_stray : ℕ → List ℕ → Option ℕ
 lowest_stray roles words = first (64 + roles * slice_index words 0) (λ k. strays (slice_index words 0) (slice_index words (k + 1)))
 
 abbrev pub refused : ℕ → Answer (List ℕ)
-refused detail = denied (reported 10 detail Register)
+refused detail = denied (denial_report (Sheet detail))
 
 abbrev pub unless_stray : List ℕ → Option ℕ → Answer (List ℕ)
 unless_stray words None = granted words

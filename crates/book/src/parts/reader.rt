@@ -1,6 +1,6 @@
 // Going through the parts of a book.
 ghost use Rattle.std.specs.Prelude.{◌≡◌, ◌+◌, ◌≤◌, length};
-ghost use Rattle.book.specs.Pieces.{parts_of, Tiles, target_of, size_of};
+ghost use Rattle.book.specs.Pieces.{parts_of, Tiles, left, first_span};
 ghost use Rattle.book.specs.Coming.{coming_of, Yields};
 ghost use Rattle.std.specs.Iterator.{at_most};
 
@@ -12,7 +12,7 @@ impl<'a> Parts<'a> {
     // The parts of a book; none where reading refuses it. Laid end to end they are the book.
     pub fn new(bytes: &'a [u8]) -> Parts<'a>
         ensures parts { coming_of result ≡ parts_of bytes.now }
-        ensures tiles { Tiles bytes.now }
+        ensures tiles { Tiles bytes.now (coming_of result) }
     {
         let Ok(lent) = sections(bytes) else {
             // Zeros in which an empty layout has its place, since every reader has one.
@@ -32,10 +32,9 @@ impl<'a> Parts<'a> {
     }
 
     // Where the next part that is no note starts, and how many bytes it has; 0 and 0 at the end.
-    // Stays: the end has neither, as `target_of` and `size_of` say by 0, so that the arms of `advance` need no case for it.
+    // Stays: the end has neither, as `first_span` says by 0, so that the arms of `next` need no case for it.
     fn target(&self) -> (usize, usize)
-        ensures place { result.0 ≡ target_of self.now.bytes.now self.now.layout self.now.stage }
-        ensures size { result.1 ≡ size_of self.now.layout self.now.stage }
+        ensures value { result ≡ first_span (left self.now.bytes.now self.now.layout self.now.stage) }
         ensures inside { result.0 + result.1 ≤ length self.now.bytes.now }
     {
         let Layout {
@@ -53,11 +52,17 @@ impl<'a> Parts<'a> {
             Stage::AtEnd => (0, 0),
         }
     }
+}
+
+impl<'a> Iterator for Parts<'a> {
+    type Item = Part<'a>;
+
+    ghost next_gives = { λ s r t. Yields (coming_of s) r (coming_of t) };
+
+    ghost remaining = { λ s. at_most (length (coming_of s)) };
 
     // The next part, if one is left.
-    pub fn advance(&mut self) -> Option<Part<'a>>
-        ensures { Yields (coming_of self.old) result (coming_of self.new) }
-    {
+    fn next(&mut self) -> Option<Part<'a>> {
         let at = self.at;
         let (place, size) = self.target();
         if at < place {
@@ -79,17 +84,5 @@ impl<'a> Parts<'a> {
         self.stage = next;
         self.at = place + size;
         Some(given)
-    }
-}
-
-impl<'a> Iterator for Parts<'a> {
-    type Item = Part<'a>;
-
-    ghost next_gives = { λ s r t. Yields (coming_of s) r (coming_of t) };
-
-    ghost remaining = { λ s. at_most (length (coming_of s)) };
-
-    fn next(&mut self) -> Option<Part<'a>> {
-        self.advance()
     }
 }

@@ -1,18 +1,19 @@
 use Rattle.std.proofs.Common.{◌+◌, ◌*◌, ◌<◌, ◌≤◌, length, get_or, sym, ap, arith}
 use Rattle.std.proofs.lemmas.List.{get_or_past, get_or-take}
+use Rattle.book.specs.Kinds.{kind_of}
 use Rattle.book.specs.Sections.{decode}
 use Rattle.book.specs.Views.{view}
 use Rattle.book.proofs.Soundness.{sizes}
 use Rattle.book.proofs.Book.concept.Goals as goal
 
 pub returns-then-i-self : goal.returns-then-i-self
-unfolding decode
+unfolding kind_of
 returns-then-i-self c =
     let b = c.args.self.now in
     let i = c.args.i in
     let cs = (view b).concepts in
     let past : length cs ≤ 4 * i = omega (arith, (sizes b).concepts_are, c.if-i-self.true) in
-    sym (ap (λ k. decode k (get_or cs (4 * i + 1) 0) (get_or cs (4 * i + 2) 0)) (get_or_past cs (4 * i) 0 past))
+    sym (ap (λ k. decode (kind_of k) (get_or cs (4 * i + 1) 0) (get_or cs (4 * i + 2) 0)) (get_or_past cs (4 * i) 0 past))
 
 pub returns : goal.returns
 returns c =

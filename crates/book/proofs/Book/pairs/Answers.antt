@@ -1,4 +1,5 @@
 use Rattle.std.proofs.Common.{◌≡◌, ℕ, ◌-◌, ◌*◌, ◌%◌, ◌<◌, ◌≤◌, List, length, get_or, take, sym, ap, subst, arith}
+use Rattle.book.specs.Limits.{most_pairs}
 use Rattle.book.specs.Views.{view}
 use Rattle.book.proofs.Soundness.{sizes, book_pairs}
 use Rattle.book.proofs.Book.pairs.Goals as goal
@@ -12,7 +13,7 @@ returns c =
     let is : take (n - 0) b.pairs ≡ (view b).pairs = ap (λ k. take k b.pairs) e in
     record {
       value = is;
-      few = subst (λ (xs : List ℕ). length xs ≤ 512) (sym is) (omega (arith, s.pairs_are, b.few_pairs));
+      few = subst (λ (xs : List ℕ). length xs ≤ 2 * most_pairs) (sym is) (omega (arith, s.pairs_are, b.few_pairs));
       whole = subst (λ (xs : List ℕ). length xs % 2 ≡ 0) (sym is) (omega (arith, s.pairs_are));
       inside = subst (λ (xs : List ℕ). (k : ℕ) → k < length xs → get_or xs k 0 < length (view b).roles) (sym is) (book_pairs b);
     }
