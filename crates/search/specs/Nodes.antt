@@ -109,12 +109,12 @@ pub record Went (G : Game) (was : List Node) (m : ℕ) (t : Task) (is : List Nod
   pub kept : value G (length was) is k u ≡ value G (length was) was m t
   pub falls : measure G (length was) is k u < measure G (length was) was m t
 
--- the answer, with the nodes left, is what the search comes to: where it failed every node is blank, and where it stands
--- the first nodes have the labels that stand, and the others are blank
+-- the answer, with the nodes left, is what the search comes to: where it failed and where it found no room every node is
+-- blank, and where it stands the first nodes have the labels that stand, none of them waits, and the others are blank
 abbrev pub Says : List Node → Result (Option ℕ) NoRoom → Outcome → Type 0
 Says nodes (Ok None) v = (v ≡ failed) × BlankFrom 0 nodes
-Says nodes (Err e) v = v ≡ full
-Says nodes (Ok (Some m)) v = (v ≡ stands (labels (take m nodes))) × (m ≤ length nodes) × BlankFrom m nodes
+Says nodes (Err e) v = (v ≡ full) × BlankFrom 0 nodes
+Says nodes (Ok (Some m)) v = (v ≡ stands (labels (take m nodes))) × (m ≤ length nodes) × BlankFrom m nodes × DoneFrom 0 m nodes
 
 -- the first m nodes went on to a seed that wants a further node, or until none waits
 abbrev pub Lacks : Game → List Node → ℕ → List Node → Result (Option Label) NoRoom → Type 0
