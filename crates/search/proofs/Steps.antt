@@ -12,7 +12,8 @@ use Rattle.search.specs.declared.NoRoom.{NoRoom}
 use Rattle.search.specs.declared.Node.{Node}
 use Rattle.search.specs.declared.Waiting.{Waiting}
 use Rattle.search.specs.Games.{Game, Bounded, explore_by}
-use Rattle.search.specs.Nodes.{blank, labels, DoneFrom, NewestIn, Task, Go, Fail, Try, value, measure, BlankFrom, Fit, Went, Says}
+use Rattle.search.specs.Nodes.{blank, labels, DoneFrom, NewestIn, BlankFrom, Says}
+use Rattle.search.specs.Loop.{Task, Go, Fail, Try, value, measure, Fit, Went}
 use Rattle.search.proofs.Resume.{finish, again, fresh, exhausted, make, back, complete, go_on, refuse, descend, start}
 use Rattle.search.proofs.Digits.{lighter_next, lighter_done, falls_write, falls_back, falls_none, falls_make}
 

@@ -3,7 +3,8 @@
 
 ghost use Rattle.std.specs.Prelude.{◌≡◌, ℕ, ◌<◌, ◌≤◌, [], length, replicate, Some, codes};
 ghost use Rattle.search.specs.Games.{Game, Bounded, Leads, explore_by, told};
-ghost use Rattle.search.specs.Nodes.{blank, labels, LowestIn, NewestIn, Go, Fail, BlankFrom, Fit, Lacks, Retreats, Says};
+ghost use Rattle.search.specs.Nodes.{blank, labels, LowestIn, NewestIn, BlankFrom, Says};
+ghost use Rattle.search.specs.Loop.{Go, Fail, Fit, Lacks, Retreats};
 
 use std::error::Error;
 use std::fmt;

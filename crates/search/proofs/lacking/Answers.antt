@@ -1,5 +1,5 @@
 use Rattle.std.proofs.Common.{length, refl, arith, length-set, sym, ap, ◌∙◌}
-use Rattle.search.specs.Nodes.{Go, value}
+use Rattle.search.specs.Loop.{Go, value}
 use Rattle.search.proofs.Resume.{done_go}
 use Rattle.search.proofs.Holders.{any_held}
 use Rattle.search.proofs.Steps.{blank_all, newest_none, along_more, along_to, went_done, went_on, went_down, without_room}

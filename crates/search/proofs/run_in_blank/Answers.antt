@@ -1,7 +1,8 @@
 use Rattle.std.proofs.Common.{◌≡◌, ◌+◌, [], length, Some, None, Ok, refl, sym, ap, ◌∙◌, subst, arith, length-set}
 use Rattle.std.proofs.lemmas.Bool.{eqb-true}
 use Rattle.search.specs.Games.{explore_by}
-use Rattle.search.specs.Nodes.{Try, Says}
+use Rattle.search.specs.Nodes.{Says}
+use Rattle.search.specs.Loop.{Try}
 use Rattle.search.proofs.Steps.{blank_all, began, no_room, turn_kept, turn_falls, went_none, went_new}
 use Rattle.search.proofs.run_in_blank.Goals as goal
 
