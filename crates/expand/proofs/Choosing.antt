@@ -6,11 +6,9 @@ use Rattle.meaning.proofs.Tests.{any_from, any_some}
 use Rattle.tableau.specs.declared.Label.{Label}
 use Rattle.tableau.specs.declared.Entry.{Entry}
 use Rattle.tableau.specs.declared.Entry.TheVariants.{Plain, Inclusion, Inclusions}
-use Rattle.tableau.specs.declared.Ways.{Ways}
-use Rattle.tableau.specs.declared.Ways.TheVariants.{One, Two}
 use Rattle.tableau.specs.Labels.{in_label, put}
 use Rattle.tableau.specs.Entries.{Table, LowerEntry}
-use Rattle.tableau.specs.Expansions.{absurd_entry, clash_at, clash, one_of, grown, taken, branch, expand, expansions}
+use Rattle.tableau.specs.Expansions.{Ways, One, Two, absurd_entry, clash_at, clash, one_of, grown, taken, branch, expand, expansions}
 use Rattle.tableau.specs.Saturation.{Holds}
 use Rattle.tableau.proofs.Folding.{fold_keeps}
 use Rattle.tableau.proofs.Labelling.{put_keeps}

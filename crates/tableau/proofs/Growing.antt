@@ -6,11 +6,9 @@ use Rattle.meaning.specs.declared.Concept.TheVariants.{Nothing, Everything, Name
 use Rattle.tableau.specs.declared.Label.{Label}
 use Rattle.tableau.specs.declared.Entry.{Entry}
 use Rattle.tableau.specs.declared.Entry.TheVariants.{Plain, Inclusion, Inclusions}
-use Rattle.tableau.specs.declared.Ways.{Ways}
-use Rattle.tableau.specs.declared.Ways.TheVariants.{One, Two}
 use Rattle.tableau.specs.Labels.{in_label, put}
 use Rattle.tableau.specs.Entries.{Table, LowerEntry}
-use Rattle.tableau.specs.Expansions.{clash, one_of, grown, taken, branch, expand, expansions}
+use Rattle.tableau.specs.Expansions.{Ways, One, Two, clash, one_of, grown, taken, branch, expand, expansions}
 use Rattle.tableau.specs.Saturation.{Holds, Saturates, In}
 use Rattle.tableau.proofs.Folding.{fold_keeps, fold_gives}
 use Rattle.tableau.proofs.Labelling.{put_in, put_keeps, put_cases}

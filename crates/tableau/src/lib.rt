@@ -119,14 +119,6 @@ pub enum Entry {
     Inclusions(u8, u8),
 }
 
-// What an entry that is taken makes of a label: one label, or two alternatives.
-// Stays: neither way is a lack or a refusal, so that an Option of the second label would say less than the two names.
-#[derive(Clone, Copy)]
-pub enum Ways {
-    One(Label),
-    Two(Label, Label),
-}
-
 // What an entry that obliges a node asks for: a successor by the role, in the part (true) or outside it.
 // Stays: the sign is a bool, as in a label.
 #[derive(Clone, Copy)]
