@@ -2,6 +2,7 @@ pub mod Tests
 pub mod Folding
 pub mod Labelling
 pub mod Meanings
+pub mod Laws
 pub mod Restrictions
 pub mod Clashing
 pub mod Obligations
