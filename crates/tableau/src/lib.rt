@@ -6,7 +6,7 @@ ghost use Rattle.std.specs.Prelude.{◌≡◌, ℕ, ◌<◌, ◌||◌};
 ghost use Rattle.words.specs.Sets.{has};
 ghost use Rattle.tableau.specs.Labels.{in_label, sign_at, put, put_all, joined, common, contains};
 ghost use Rattle.tableau.specs.Examples.{WorkedExamples, ExamplesOpen};
-ghost use Rattle.tableau.specs.Promises.{FailureIsRight, SuccessIsRight, RoomSuffices, SearchWithinRoom, StandingLabelsDiffer, FullIsRight, EdgesAreThoseChosen, SearchDecides};
+ghost use Rattle.tableau.specs.Promises.{FailureIsRight, SuccessIsRight, RoomSuffices, StandingLabelsDiffer, FullIsRight, EdgesAreThoseChosen, SearchDecides};
 
 use meaning::Concept;
 
@@ -148,17 +148,12 @@ pub fn success_is_right()
     ensures { SuccessIsRight }
 {}
 
-// With 3 ^ w nodes the search is never without room, and labels that stand are pairwise different.
+// With 3 ^ w nodes the search is never without room.
 pub fn room_suffices()
     ensures { RoomSuffices }
 {}
 
-// A search in n nodes leaves at most n labels.
-pub fn search_within_room()
-    ensures { SearchWithinRoom }
-{}
-
-// At every moment of a search the labels that stand are pairwise different, and at most n.
+// At every moment of a search the labels that stand are pairwise different, and at most n; so are those that it leaves.
 pub fn standing_labels_differ()
     ensures { StandingLabelsDiffer }
 {}
