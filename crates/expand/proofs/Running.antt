@@ -108,8 +108,8 @@ module _ (B : Table) (k : ℕ) (l : Label) where
       same = λ c. so.same c ∙ skip B at i (left - i) left (omega arith) free c;
     }
 
-    pub along_dead : clash B at ≡ true → (c : ℕ) → from B k l c ≡ []
-    along_dead e c = so.same c ∙ from_clash B left at c e
+    pub along_dead : ((i : ℕ) → LowerEntry i (B.entry i)) → clash B at ≡ true → (c : ℕ) → from B k l c ≡ []
+    along_dead low e c = so.same c ∙ from_clash B low left at c e
 
     pub along_first : (c : ℕ) (p : Label × ℕ) → FirstFrom B left at c p → FirstFrom B k l c p
     along_first c p h = (
