@@ -2,9 +2,8 @@
 use Rattle.std.proofs.Common.{◌≡◌, ℕ, zero, suc, ◌+◌, ◌-◌, ◌<◌, ◌≤◌, false, [], ◌∷◌, ◌++◌, sym, ap, ◌∙◌, ap₂, arith}
 use Rattle.std.proofs.lemmas.Bool.{cond-false}
 use Rattle.tableau.specs.declared.Label.{Label}
-use Rattle.tableau.specs.declared.Ways.TheVariants.{One, Two}
 use Rattle.tableau.specs.Entries.{Table, LowerEntry}
-use Rattle.tableau.specs.Expansions.{clash, taken, expand}
+use Rattle.tableau.specs.Expansions.{One, Two, clash, taken, expand}
 use Rattle.expand.specs.Choices.{weight, fork, from, FirstFrom}
 use Rattle.expand.proofs.Choosing.{weight_none, weight_next, one_first, from_past}
 

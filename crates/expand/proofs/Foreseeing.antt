@@ -2,11 +2,9 @@
 use Rattle.std.proofs.Common.{◌≡◌, ℕ, zero, suc, ◌-◌, ◌<◌, Bool, true, false, cond, ◌||◌, eqb, List, [], ◌∷◌, ◌++◌, sym, refl, ap, ◌∙◌, subst, ⊎_elim, inl, arith}
 use Rattle.std.proofs.lemmas.Bool.{both_ways, or_cases, cond_both}
 use Rattle.tableau.specs.declared.Label.{Label}
-use Rattle.tableau.specs.declared.Ways.{Ways}
-use Rattle.tableau.specs.declared.Ways.TheVariants.{One, Two}
 use Rattle.tableau.specs.Labels.{in_label, put, joined}
 use Rattle.tableau.specs.Entries.{Table}
-use Rattle.tableau.specs.Expansions.{clash, taken, branch, expand}
+use Rattle.tableau.specs.Expansions.{Ways, One, Two, clash, taken, branch, expand}
 use Rattle.tableau.specs.Saturation.{In}
 use Rattle.tableau.proofs.Labelling.{put_in}
 use Rattle.tableau.proofs.Standing.{in_left, in_right, in_append}

@@ -2,10 +2,8 @@
 -- has no lower entries as parts, so it never has alternatives, and 64 entries have choice words below 2 ^ 63.
 use Rattle.std.specs.Prelude.{◌≡◌, ℕ, zero, suc, ◌+◌, ◌-◌, ◌^◌, ◌<◌, ◌≤◌, cond, List, [], ◌∷◌, ◌++◌, length, ◌==◌}
 use Rattle.tableau.specs.declared.Label.{Label}
-use Rattle.tableau.specs.declared.Ways.{Ways}
-use Rattle.tableau.specs.declared.Ways.TheVariants.{One, Two}
 use Rattle.tableau.specs.Entries.{Table, LowerEntry}
-use Rattle.tableau.specs.Expansions.{taken, expand, expansions}
+use Rattle.tableau.specs.Expansions.{Ways, One, Two, taken, expand, expansions}
 
 -- what the second alternative at entry k adds to a choice word; the choice words of the entries below k are below it
 unfoldable pub weight : ℕ → ℕ

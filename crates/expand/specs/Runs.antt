@@ -1,11 +1,9 @@
 -- What comes of a label up to the first entry that leaves a choice.
 use Rattle.std.specs.Prelude.{◌≡◌, ℕ, suc, ◌<◌, ◌≤◌, false, [], Option, MatchOption}
 use Rattle.tableau.specs.declared.Label.{Label}
-use Rattle.tableau.specs.declared.Ways.{Ways}
-use Rattle.tableau.specs.declared.Ways.TheVariants.{One, Two}
 use Rattle.tableau.specs.Labels.{put}
 use Rattle.tableau.specs.Entries.{Table}
-use Rattle.tableau.specs.Expansions.{clash, taken, expand}
+use Rattle.tableau.specs.Expansions.{Ways, One, Two, clash, taken, expand}
 use Rattle.tableau.specs.Saturation.{Holds, In}
 use Rattle.expand.specs.declared.Step.{Step}
 use Rattle.expand.specs.declared.Step.TheVariants.{Grown, Choice}

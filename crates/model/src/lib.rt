@@ -32,7 +32,8 @@ impl<'p> Strategy for Planned<'p> {
 }
 
 // Searches from the seed in the lent nodes. Where it stands, the labels of the first so many nodes are the standing list,
-// and the other nodes are blank; where it fails, the answer is `None` and every node is blank.
+// none of them waits, and the other nodes are blank; where it fails, the answer is `None`. Where it fails, and where there is
+// no room, every node is blank.
 #[tactic(auto, using(crate::proofs::Same::find_same))]
 pub fn find(plan: &Plan, nodes: &mut [Node], seed: Label) -> Result<Option<usize>, NoRoom>
     ensures { Says nodes.new result (explore (box_in plan.now) (table_in plan.now) (length nodes.old) (length nodes.old) [] seed) }

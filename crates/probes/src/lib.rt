@@ -2,12 +2,13 @@
 // thing over and over.
 #![tactic(auto)]
 
-ghost use Rattle.std.specs.Prelude.{◌≡◌, ℕ, [], min, length};
+ghost use Rattle.std.specs.Prelude.{◌≡◌, ℕ, [], min, length, replicate};
 ghost use Rattle.tableau.specs.Expansions.{expansions};
 ghost use Rattle.tableau.specs.Search.{explore};
 ghost use Rattle.plan.specs.Meanings.{table_in, box_in};
 ghost use Rattle.successor.specs.Obligations.{seeds_in};
 ghost use Rattle.search.specs.Games.{told};
+ghost use Rattle.search.specs.Nodes.{blank};
 ghost use Rattle.probes.specs.Sums.{added};
 
 use book::read::read;
@@ -86,14 +87,16 @@ pub fn count_seeds_over(plan: &Plan, label: Label, times: u64) -> u64
     over(times, || count_seeds(plan, label) as u64)
 }
 
-// Whether a world comes of the seed in the lent nodes; searched for so many times, and at least once.
+// Whether a world comes of the seed in the lent nodes; searched for so many times, and at least once. Every node is blank after
+// it.
 pub fn has_world_over(
     plan: &Plan,
     nodes: &mut [Node],
     seed: Label,
     times: u64,
 ) -> Result<bool, NoRoom>
-    ensures { result ≡ told (explore (box_in plan.now) (table_in plan.now) (length nodes.old) (length nodes.old) [] seed) }
+    ensures answer { result ≡ told (explore (box_in plan.now) (table_in plan.now) (length nodes.old) (length nodes.old) [] seed) }
+    ensures wiped { nodes.new ≡ replicate (length nodes.old) blank }
 {
     let mut answer = has_world(plan, nodes, seed);
     for _ in 1..times {

@@ -90,10 +90,10 @@ module _ (H : RoleBox) (K : Book) (P : Opens H K) where
 
   -- with 3 ^ w nodes there is room
   pub not_full : (a b n : ℕ) → a < K.entries → b < K.entries → 3 ^ width_of H K ≤ n → search_in (setup H K) (seed_of_not a b) n ≡ full → ⊥
-  not_full a b n l m room e = (room_suffices H K P (seed_of_not a b) (seed_not_fits K a b l m) n).enough room (search_same (seed_of_not a b) n ∙ e)
+  not_full a b n l m room e = room_suffices H K P (seed_of_not a b) (seed_not_fits K a b l m) n room (search_same (seed_of_not a b) n ∙ e)
 
   pub one_full : (a n : ℕ) → a < K.entries → 3 ^ width_of H K ≤ n → search_in (setup H K) (seed_of_one a) n ≡ full → ⊥
-  one_full a n l room e = (room_suffices H K P (seed_of_one a) (seed_one_fits K a l) n).enough room (search_same (seed_of_one a) n ∙ e)
+  one_full a n l room e = room_suffices H K P (seed_of_one a) (seed_one_fits K a l) n room (search_same (seed_of_one a) n ∙ e)
 
   -- the same of classes that stand by entries of the book
   module _ (cs : List ℕ) (named : (k : ℕ) → k < length cs → get_or cs k 0 < K.entries) where

@@ -1,12 +1,13 @@
 -- What is left to do falls with each step.
-use Rattle.std.proofs.Common.{◌≡◌, ℕ, zero, suc, ◌+◌, ◌-◌, ◌*◌, ◌^◌, ◌<◌, ◌≤◌, Bool, true, false, cond, eqb, ltb, ◌≢◌, List, ◌∷◌, length, get_or, set, sym, refl, ap, ◌∙◌, suc-add, zero-add, arith, Some, None, Option}
+use Rattle.std.proofs.Common.{◌≡◌, ℕ, zero, suc, ◌+◌, ◌-◌, ◌*◌, ◌<◌, ◌≤◌, Bool, true, false, cond, eqb, ltb, ◌≢◌, List, ◌∷◌, length, get_or, set, sym, refl, ap, ◌∙◌, suc-add, zero-add, arith, Some, None, Option}
 use Rattle.std.proofs.lemmas.List.{get_or-set_same, get_or-set_other}
 use Rattle.std.proofs.lemmas.Bool.{cond-true, cond-false, lt-ltb, le-ltb, eq-eqb}
 use Rattle.tableau.specs.declared.Label.{Label}
 use Rattle.search.specs.declared.Node.{Node}
 use Rattle.search.specs.declared.Waiting.{Waiting}
 use Rattle.search.specs.Games.{Game, Bounded}
-use Rattle.search.specs.Nodes.{blank, Task, Go, Fail, Try, left, weigh, unused, digit, number, measure}
+use Rattle.search.specs.Nodes.{blank}
+use Rattle.search.specs.Loop.{Task, Go, Fail, Try, base, left, weigh, unused, digit, number, measure}
 use Rattle.search.proofs.Resume.{finish, again, fresh}
 
 same_front : (f g : ℕ → ℕ) (p : ℕ) → ((i : ℕ) → i < p → f i ≡ g i) → number f p ≡ number g p
@@ -16,7 +17,7 @@ same_front f g (suc p) h =
     let e : number f p ≡ number g p = same_front f g p (λ i l. h i (omega arith)) in
     omega (arith, h p (omega arith))
 
-less_after : (f g : ℕ → ℕ) (p j : ℕ) → number f p ≡ number g p → f p < g p → ((i : ℕ) → f i < 100 * 2 ^ 63 + 200) → number f (suc (j + p)) < number g (suc (j + p))
+less_after : (f g : ℕ → ℕ) (p j : ℕ) → number f p ≡ number g p → f p < g p → ((i : ℕ) → f i < base) → number f (suc (j + p)) < number g (suc (j + p))
 unfolding number
 less_after f g p zero e l b = rw zero-add (omega arith)
 less_after f g p (suc j) e l b =
@@ -24,7 +25,7 @@ less_after f g p (suc j) e l b =
     rw (suc-add j p) (omega (arith, ih, b (suc (j + p))))
 
 -- a smaller digit after equal ones makes the number smaller, whatever follows
-number_less : (f g : ℕ → ℕ) (p n : ℕ) → p < n → ((i : ℕ) → i < p → f i ≡ g i) → f p < g p → ((i : ℕ) → f i < 100 * 2 ^ 63 + 200) → number f n < number g n
+number_less : (f g : ℕ → ℕ) (p n : ℕ) → p < n → ((i : ℕ) → i < p → f i ≡ g i) → f p < g p → ((i : ℕ) → f i < base) → number f n < number g n
 number_less f g p n h s l b =
     let e : n ≡ suc ((n - suc p) + p) = omega arith in
     rw e (less_after f g p (n - suc p) (same_front f g p s) l b)
@@ -47,26 +48,26 @@ module _ (G : Game) where
   unused_try s c m = cond-true _ _ _ (eq-eqb m m refl)
 
   module _ (B : Bounded G) where
-    left_small : (x : Node) (w : Option Waiting) → left G x w < 100 * 2 ^ 63 + 200
+    left_small : (x : Node) (w : Option Waiting) → left G x w < base
     left_small x None = omega arith
     left_small x (Some w) = omega (arith, B.labels_few x.seed w.choice, B.seeds_few x.label w.next)
 
-    weigh_small : (x : Node) → weigh G x < 100 * 2 ^ 63 + 200
+    weigh_small : (x : Node) → weigh G x < base
     unfolding weigh
     weigh_small x = left_small x x.waiting
 
-    unused_small : (t : Task) (m i : ℕ) → unused G t m i < 100 * 2 ^ 63 + 200
+    unused_small : (t : Task) (m i : ℕ) → unused G t m i < base
     unfolding unused
     unused_small Go m i = omega arith
     unused_small Fail m i = omega arith
     unused_small (Try s c) m i =
         let a = B.labels_few s c in
-        cond_less (eqb i m) (length (G.labels_from s c) * 100 + 1) (100 * 2 ^ 63 + 199) (100 * 2 ^ 63 + 200) (omega arith) (omega arith)
+        cond_less (eqb i m) (length (G.labels_from s c) * 100 + 1) (base - 1) base (omega arith) (omega arith)
 
-    digit_small : (nodes : List Node) (m : ℕ) (t : Task) (i : ℕ) → digit G nodes m t i < 100 * 2 ^ 63 + 200
+    digit_small : (nodes : List Node) (m : ℕ) (t : Task) (i : ℕ) → digit G nodes m t i < base
     unfolding digit
     digit_small nodes m t i =
-        cond_less (ltb i m) (weigh G (get_or nodes i blank)) (unused G t m i) (100 * 2 ^ 63 + 200) (weigh_small (get_or nodes i blank)) (unused_small t m i)
+        cond_less (ltb i m) (weigh G (get_or nodes i blank)) (unused G t m i) base (weigh_small (get_or nodes i blank)) (unused_small t m i)
 
     module _ (x : Node) (w : Waiting) (e : x.waiting ≡ Some w) where
       weighs : weigh G x ≡ left G x (Some w)

@@ -8,7 +8,8 @@ use Rattle.tableau.specs.Search.{Outcome, failed, full, stands, Searcher, or_els
 use Rattle.search.specs.declared.Node.{Node}
 use Rattle.search.specs.declared.Waiting.{Waiting}
 use Rattle.search.specs.Games.{Game, run_seeds, try_all, explore_by}
-use Rattle.search.specs.Nodes.{blank, label_of, labels, DoneFrom, Go, Fail, Try, plug, hand_on, resume, gives, value}
+use Rattle.search.specs.Nodes.{blank, label_of, labels, DoneFrom}
+use Rattle.search.specs.Loop.{Go, Fail, Try, plug, hand_on, resume, gives, value}
 use Rattle.search.proofs.Fix.{unroll}
 
 -- x with its obligations met

@@ -12,7 +12,8 @@ use Rattle.search.specs.declared.NoRoom.{NoRoom}
 use Rattle.search.specs.declared.Node.{Node}
 use Rattle.search.specs.declared.Waiting.{Waiting}
 use Rattle.search.specs.Games.{Game, Bounded, explore_by}
-use Rattle.search.specs.Nodes.{blank, labels, DoneFrom, NewestIn, Task, Go, Fail, Try, value, measure, BlankFrom, Fit, Went, Says}
+use Rattle.search.specs.Nodes.{blank, labels, DoneFrom, NewestIn, BlankFrom, Says}
+use Rattle.search.specs.Loop.{Task, Go, Fail, Try, value, measure, Fit, Went}
 use Rattle.search.proofs.Resume.{finish, again, fresh, exhausted, make, back, complete, go_on, refuse, descend, start}
 use Rattle.search.proofs.Digits.{lighter_next, lighter_done, falls_write, falls_back, falls_none, falls_make}
 
@@ -103,9 +104,9 @@ pub began : (G : Game) (first now : List Node) (m : ℕ) (t : Task) (seed : Labe
     → value G (length now) now m t ≡ value G (length now) first 0 (Try seed 0) → value G (length now) now m t ≡ explore_by G (length first) (length first) [] seed
 began G first now m t seed e h k = k ∙ start G (length now) first seed h ∙ ap (λ n. explore_by G n n [] seed) e
 
-pub no_room : (nodes : List Node) (r : Result (Option ℕ) NoRoom) (v : Outcome) → IsErr r → v ≡ full → Says nodes r v
-no_room nodes (Err e) v i h = h
-no_room nodes (Ok x) v i h = absurd (false≢true i)
+pub no_room : (nodes : List Node) (r : Result (Option ℕ) NoRoom) (v : Outcome) → IsErr r → v ≡ full → BlankFrom 0 nodes → Says nodes r v
+no_room nodes (Err e) v i h b = (h, b)
+no_room nodes (Ok x) v i h b = absurd (false≢true i)
 
 module _ (G : Game) (B : Bounded G) (nodes : List Node) where
   pub went_none : (m : ℕ) (s : Label) (c : ℕ) → m < length nodes → BlankFrom m nodes → G.labels_from s c ≡ [] → Went G nodes m (Try s c) nodes m Fail

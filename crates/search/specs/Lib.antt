@@ -1,2 +1,3 @@
 pub mod Games
 pub mod Nodes
+pub mod Loop

@@ -3,7 +3,8 @@
 
 ghost use Rattle.std.specs.Prelude.{◌≡◌, ℕ, ◌<◌, ◌≤◌, [], length, replicate, Some, codes};
 ghost use Rattle.search.specs.Games.{Game, Bounded, Leads, explore_by, told};
-ghost use Rattle.search.specs.Nodes.{blank, labels, LowestIn, NewestIn, Go, Fail, BlankFrom, Fit, Lacks, Retreats, Says};
+ghost use Rattle.search.specs.Nodes.{blank, labels, LowestIn, NewestIn, BlankFrom, Says};
+ghost use Rattle.search.specs.Loop.{Go, Fail, Fit, Lacks, Retreats};
 
 use std::error::Error;
 use std::fmt;
@@ -98,7 +99,8 @@ fn newest(nodes: &[Node]) -> Option<(usize, Waiting)>
 }
 
 // Goes on with the obligations of the newest waiting node until one wants a further node: the seed of that node, or `None`
-// where no node of the first m waits any more. A standing label that contains the seed of an obligation is reused.
+// where no node of the first m waits any more. A standing label that contains the seed of an obligation is reused. Where a
+// further node is wanted and all are in use, every node is wiped.
 // Stays: the nodes in use are the first m of those lent, here and in `retreat`. A struct of both would have to say in each clause
 // that it holds the same slice.
 fn lacking<S: Strategy>(strategy: &S, nodes: &mut [Node], m: usize) -> Result<Option<Label>, NoRoom>
@@ -115,6 +117,7 @@ fn lacking<S: Strategy>(strategy: &S, nodes: &mut [Node], m: usize) -> Result<Op
                 });
                 if lowest(&nodes[..m], seed).is_none() {
                     if m == nodes.len() {
+                        wipe(nodes);
                         return Err(NoRoom);
                     }
                     return Ok(Some(seed));
@@ -143,7 +146,8 @@ fn retreat(nodes: &mut [Node], m: usize) -> Option<(usize, Label, u64)>
 }
 
 // Searches from the seed in the lent nodes, as many as there are; what they held before does not matter. Where it stands,
-// the first so many nodes are the individuals of a world; `None` where it fails.
+// the first so many nodes are the individuals of a world, and the others are blank; `None` where it fails. Where it fails, and
+// where there is no room, every node is blank.
 // Stays: a strategy, the nodes and a seed are all that a search is given, and no two of them belong together.
 pub fn run<S: Strategy>(
     strategy: &S,
@@ -224,10 +228,7 @@ pub fn tried<S: Strategy>(strategy: &S, nodes: &mut [Node], seed: Label) -> Resu
             wipe_first(nodes, m);
             Ok(true)
         }
-        Err(e) => {
-            wipe(nodes);
-            Err(e)
-        }
+        Err(e) => Err(e),
     }
 }
 

@@ -9,7 +9,7 @@ use Rattle.tableau.specs.declared.Label.{Label}
 use Rattle.tableau.specs.Labels.{empty, put}
 use Rattle.tableau.specs.Search.{Outcome, failed, full, stands}
 use Rattle.tableau.specs.Working.{everywhere_entry, width_of, table_of, rooted, seed_of_not, seed_of_one}
-use Rattle.tableau.specs.Promises.{Opens, Satisfies, Seed, search_from, FailureIsRight, Realised, RoomSuffices, SearchWithinRoom, StandingLabelsDiffer, FullIsRight, EdgesAreThoseChosen, SearchDecides}
+use Rattle.tableau.specs.Promises.{Opens, Satisfies, Seed, search_from, FailureIsRight, Realised, RoomSuffices, StandingLabelsDiffer, FullIsRight, EdgesAreThoseChosen, SearchDecides}
 use Rattle.tableau.proofs.Labelling.{in_empty, put_in, put_keeps, put_cases}
 use Rattle.tableau.proofs.Tables.{rooted_everywhere, rooted_cases}
 use Rattle.tableau.proofs.Tabling.{lower, tabled}
@@ -17,7 +17,7 @@ use Rattle.tableau.proofs.Totality.{with_total, worked, worked_means, follows, r
 use Rattle.tableau.proofs.Failing.{failure}
 use Rattle.tableau.proofs.Succeeding.{success_is_right}
 use Rattle.tableau.proofs.Choosing.{edge_stays, edges_met, root_ends}
-use Rattle.tableau.proofs.Room.{Narrow, Holding, roomy, distinct, within, always_distinct, always_within}
+use Rattle.tableau.proofs.Room.{Narrow, Holding, roomy, always_distinct, always_within}
 use Rattle.tableau.proofs.Refusing.{full_wanted, wanted_full}
 
 -- a failed search is one for the world with the universal role too
@@ -35,13 +35,7 @@ root_holding H K s = (true, everywhere_entry H K, rooted_everywhere H K s)
 
 -- the room of the root's search
 pub room_suffices : RoomSuffices
-room_suffices H K P s seed n = record {
-  enough = λ room e. roomy (with_universal H) (table_of H K) (lower H K P) n room (rooted H K s) (root_narrow H K s seed) (root_holding H K s) e;
-  distinct = λ ls e. distinct (with_universal H) (table_of H K) (lower H K P) n (rooted H K s) (root_narrow H K s seed) (root_holding H K s) ls e;
-}
-
-pub search_within_room : SearchWithinRoom
-search_within_room H K P s seed n ls e = within (with_universal H) (table_of H K) n n [] (rooted H K s) ls e
+room_suffices H K P s seed n room e = roomy (with_universal H) (table_of H K) (lower H K P) n room (rooted H K s) (root_narrow H K s seed) (root_holding H K s) e
 
 -- the moments of the root's search
 pub standing_labels_differ : StandingLabelsDiffer
@@ -53,10 +47,10 @@ standing_labels_differ H K P s seed n = record {
 
 -- where it is full
 pub full_is_right : FullIsRight
-full_is_right H K P s seed n = record {
-  wanted = full_wanted (with_universal H) (table_of H K) (lower H K P) n (rooted H K s) (root_narrow H K s seed) (root_holding H K s);
-  refused = wanted_full (with_universal H) (table_of H K) (lower H K P) n (rooted H K s) (root_narrow H K s seed) (root_holding H K s);
-}
+full_is_right H K P s seed n = (
+  full_wanted (with_universal H) (table_of H K) (lower H K P) n (rooted H K s) (root_narrow H K s seed) (root_holding H K s),
+  wanted_full (with_universal H) (table_of H K) (lower H K P) n (rooted H K s) (root_narrow H K s seed) (root_holding H K s),
+)
 
 -- and its edges
 pub edges_are_those_chosen : EdgesAreThoseChosen
@@ -93,20 +87,24 @@ fails_for_want H K P s seed n room none = go (search_from H K s n) refl
   where
     go : (o : Outcome) → search_from H K s n ≡ o → o ≡ failed
     go failed e = refl
-    go full e = absurd ((room_suffices H K P s seed n).enough room e)
+    go full e = absurd (room_suffices H K P s seed n room e)
     go (stands ls) e = absurd (none ls (success_is_right H K P s seed n ls e))
 
 -- each way of the decision is failure or success being right
 pub search_decides : SearchDecides
 search_decides H K P n room = record {
-  subsumed = λ a b l m e W keeps x i h. ⊎_elim
-      (λ g. g)
-      (λ g. absurd (failure_is_right H K P (seed_of_not a b) (seed_not_fits K a b l m) n e W keeps x i (satisfies_not K W x a b h g)))
-      (cases_Bool (holds W K.concept b x));
-  fails = λ a b l m sub. fails_for_want H K P (seed_of_not a b) (seed_not_fits K a b l m) n room
-      (λ ls r. both_ways _ (r.satisfies false b (put_in false b (put true a empty)))
-      (sub _ r.keeps 0 r.inhabited (r.satisfies true a (put_keeps false b (put true a empty) true a (put_in true a empty)))));
-  none = λ a l e W keeps x i h. failure_is_right H K P (seed_of_one a) (seed_one_fits K a l) n e W keeps x i (satisfies_one K W x a h);
-  fails_alone = λ a l none. fails_for_want H K P (seed_of_one a) (seed_one_fits K a l) n room
-      (λ ls r. none _ r.keeps 0 r.inhabited (r.satisfies true a (put_in true a empty)));
+  not_fails = λ a b l m. (
+    λ e W keeps x i h. ⊎_elim
+        (λ g. g)
+        (λ g. absurd (failure_is_right H K P (seed_of_not a b) (seed_not_fits K a b l m) n e W keeps x i (satisfies_not K W x a b h g)))
+        (cases_Bool (holds W K.concept b x)),
+    λ sub. fails_for_want H K P (seed_of_not a b) (seed_not_fits K a b l m) n room
+        (λ ls r. both_ways _ (r.satisfies false b (put_in false b (put true a empty)))
+        (sub _ r.keeps 0 r.inhabited (r.satisfies true a (put_keeps false b (put true a empty) true a (put_in true a empty))))),
+  );
+  one_fails = λ a l. (
+    λ e W keeps x i h. failure_is_right H K P (seed_of_one a) (seed_one_fits K a l) n e W keeps x i (satisfies_one K W x a h),
+    λ none. fails_for_want H K P (seed_of_one a) (seed_one_fits K a l) n room
+        (λ ls r. none _ r.keeps 0 r.inhabited (r.satisfies true a (put_in true a empty))),
+  );
 }

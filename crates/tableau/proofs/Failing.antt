@@ -9,15 +9,15 @@ use Rattle.meaning.proofs.Tests.{none_any, all_at}
 use Rattle.tableau.specs.declared.Label.{Label}
 use Rattle.tableau.specs.declared.Entry.{Entry}
 use Rattle.tableau.specs.declared.Entry.TheVariants.{Plain, Inclusion, Inclusions}
-use Rattle.tableau.specs.declared.Ways.{Ways}
-use Rattle.tableau.specs.declared.Ways.TheVariants.{One, Two}
 use Rattle.tableau.specs.declared.Demand.{Demand}
 use Rattle.tableau.specs.Labels.{empty, in_label, put, any_contains}
-use Rattle.tableau.specs.Entries.{Table, means, Meaning, Follows, Tabled}
-use Rattle.tableau.specs.Expansions.{absurd_entry, clash_at, clash, one_of, grown, taken, branch, expand, expansions}
+use Rattle.tableau.specs.Entries.{Table}
+use Rattle.tableau.specs.Expansions.{Ways, One, Two, absurd_entry, clash_at, clash, one_of, grown, taken, branch, expand, expansions}
 use Rattle.tableau.specs.Seeds.{obliges, sign_of, obliged_at, role_of, seed_of, wants}
 use Rattle.tableau.specs.Search.{failed, Searcher, reuse, pursue, meet_from, try_each, enter, explore}
 use Rattle.tableau.specs.Saturation.{In}
+use Rattle.tableau.proofs.Meanings.{means, Meaning}
+use Rattle.tableau.proofs.Laws.{Follows, Tabled}
 use Rattle.tableau.proofs.Tests.{never, not_sign}
 use Rattle.tableau.proofs.Folding.{fold_keeps}
 use Rattle.tableau.proofs.Labelling.{in_empty, put_cases}
@@ -154,7 +154,7 @@ module _ (H : RoleBox) (B : Table) (T : Tabled H B) (W : Interpretation) (F : Fo
         → H.transitive p ≡ true → H.below r p ≡ true → ((z : ℕ) → z < W.size → W.joins p x z ≡ true → W.joins t x z ≡ true)
         → denotes W (Restriction q p a) h y ≡ s
     passed_on p t a q s o e on rp up = restrict W p a y h q s o
-        (λ z bz jz. restricted W t a x h q s o e z bz (up z bz (F.passes p x y z on bx by bz (F.wider r p x y rp bx by j) jz)))
+        (λ z bz jz. restricted W t a x h q s o e z bz (up z bz (F.transitivity p on x y z bx by bz (F.inclusions r p rp x y bx by j) jz)))
 
     -- what an entry says of y, it is
     means_at : (i : ℕ) (e : Entry) (s : Bool) → B.entry i ≡ e → means W e h y ≡ s → h i y ≡ s
@@ -170,7 +170,7 @@ module _ (H : RoleBox) (B : Table) (T : Tabled H B) (W : Interpretation) (F : Fo
 
         part : (s : Bool) (i : ℕ) (q : Quantifier) (t a : ℕ) → Restricting H B l r s i q t a → (m : Label) → Sat h y m → Sat h y (put (sign_of q s) a m)
         part s i q t a c m =
-            sat_put h y (sign_of q s) a m (restricted W t a x h q s c.every (said s i q t a c) y by (F.wider r t x y c.above bx by j))
+            sat_put h y (sign_of q s) a m (restricted W t a x h q s c.every (said s i q t a c) y by (F.inclusions r t c.above x y bx by j))
 
         itself : (s : Bool) (i : ℕ) (q : Quantifier) (t a : ℕ) → Restricting H B l r s i q t a → H.transitive t ≡ true → (m : Label) → Sat h y m → Sat h y (put s i m)
         itself s i q t a c on m = sat_put h y s i m
@@ -183,7 +183,7 @@ module _ (H : RoleBox) (B : Table) (T : Tabled H B) (W : Interpretation) (F : Fo
             sat_put h y s k m
             (means_at k (Plain (Restriction q P.0 a)) s P.1
             (passed_on P.0 t a q s c.every (said s i q t a c) P.2 (ap (λ u. H.below r (role_of u)) (sym P.1) ∙ d)
-            (λ z bz. F.wider P.0 t x z P.3 bx bz)))
+            (λ z bz. F.inclusions P.0 t P.3 x z bx bz)))
 
   -- an obligation of x is met in the world, by an individual that satisfies its seed
   pub some_successor : (x : ℕ) → x < W.size → (l : Label) → Sat h x l → (i r a : ℕ) (s : Bool) → obliged_at B l i ≡ wants r s a

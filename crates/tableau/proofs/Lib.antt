@@ -1,7 +1,9 @@
 pub mod Tests
 pub mod Folding
 pub mod Labelling
+pub mod Sets
 pub mod Meanings
+pub mod Laws
 pub mod Restrictions
 pub mod Clashing
 pub mod Obligations

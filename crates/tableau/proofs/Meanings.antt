@@ -1,10 +1,29 @@
--- The working entries have a meaning in every world: each entry means what it says over its parts.
-use Rattle.std.proofs.Common.{◌≡◌, ℕ, zero, suc, ◌+◌, ◌<◌, Bool, not, ◌||◌, ap, ◌∙◌, arith}
-use Rattle.meaning.specs.Worlds.{Interpretation}
+-- What the working entries mean in a world: each entry what it says over its parts.
+use Rattle.std.proofs.Common.{◌≡◌, ℕ, zero, suc, ◌+◌, ◌<◌, Bool, false, not, ◌||◌, ap, ◌∙◌, arith}
+use Rattle.meaning.specs.Bounded.{all}
+use Rattle.meaning.specs.Worlds.{Interpretation, denotes}
 use Rattle.meaning.proofs.Meanings.{denotes_same, all_same}
 use Rattle.tableau.specs.declared.Entry.{Entry}
 use Rattle.tableau.specs.declared.Entry.TheVariants.{Plain, Inclusion, Inclusions}
-use Rattle.tableau.specs.Entries.{LowerEntry, means, Meaning, deep_entry, holds_entry}
+use Rattle.tableau.specs.Entries.{LowerEntry}
+
+-- is x in the working entry, where `h a y` says whether y is in entry a
+abbrev pub means : Interpretation → Entry → (ℕ → ℕ → Bool) → ℕ → Bool
+means W (Plain c) h x = denotes W c h x
+means W (Inclusion c d) h x = not (h c x) || h d x
+means W (Inclusions lo n) h x = all n (λ k. h (lo + k) x)
+
+-- `h` is the meaning of the working entries in the world: each entry means what it says over the others
+abbrev pub Meaning : Interpretation → (ℕ → Entry) → (ℕ → ℕ → Bool) → Type 0
+Meaning W entry h = (i x : ℕ) → h i x ≡ means W (entry i) h x
+
+-- the same down to a depth, and deep enough
+unfoldable pub deep_entry : Interpretation → (ℕ → Entry) → ℕ → ℕ → ℕ → Bool
+deep_entry W entry zero i x = false
+deep_entry W entry (suc k) i x = means W (entry i) (deep_entry W entry k) x
+
+unfoldable pub holds_entry : Interpretation → (ℕ → Entry) → ℕ → ℕ → Bool
+holds_entry W entry i x = deep_entry W entry (suc i) i x
 
 -- an entry's meaning depends on its parts alone
 pub means_same : (W : Interpretation) (i : ℕ) (e : Entry) → LowerEntry i e → (g h : ℕ → ℕ → Bool) → ((a y : ℕ) → a < i → g a y ≡ h a y)

@@ -253,11 +253,6 @@ module _ (H : RoleBox) (B : Table) (lower : (i : ℕ) → LowerEntry i (B.entry 
   pub roomy : 3 ^ B.width ≤ n → (seed : Label) → Narrow B.width seed → Holding seed → explore H B n n [] seed ≡ full → ⊥
   roomy room seed p h e = let f : n < 3 ^ B.width = root_fits seed p h full e in omega arith
 
-  -- The labels that a search leaves standing are different.
-  pub distinct : (seed : Label) → Narrow B.width seed → Holding seed → (ls : List Label) → explore H B n n [] seed ≡ stands ls
-      → Different ls
-  distinct seed p h ls e i j l k same = (root_fits seed p h (stands ls) e).0.different i j l k (ap (code B.width) same)
-
 -- Labels that stand are at most n: a node is entered only where fewer than n stand.
 abbrev Within : ℕ → Outcome → Type 0
 Within n failed = Unit {0}
@@ -303,10 +298,6 @@ module _ (H : RoleBox) (B : Table) (n : ℕ) where
       go : Sparing (explore H B n k) → (c : Bool) → leb n (length st) ≡ c → Within n (enter H B c (explore H B n k) st seed)
       go good true e = tt
       go good false e = try_within (explore H B n k) good st (leb-false n (length st) e) (expansions B seed)
-
-  -- A search in n nodes leaves at most n labels standing.
-  pub within : (k : ℕ) (st : List Label) (seed : Label) (ls : List Label) → explore H B n k st seed ≡ stands ls → length ls ≤ n
-  within k st seed ls e = subst (Within n) e (explore_within k st seed)
 
 -- what holds at a moment: the labels that stand are apart and at most n, and node x is one of them
 record Orderly (B : Table) (n k x : ℕ) (st : List Label) : Type 0 where

@@ -14,9 +14,8 @@ use Rattle.tableau.specs.Seeds.{obliged_at, seed_of, wants}
 use Rattle.tableau.specs.Found.{found}
 use Rattle.tableau.specs.Working.{plain_of, book_entry, everywhere_entry, width_of, entry_of, table_of, rooted}
 use Rattle.tableau.specs.Promises.{Opens, Satisfies, Seed, found_world, Realised, SuccessIsRight}
-use Rattle.tableau.specs.Entries.{means, Meaning, holds_entry}
 use Rattle.tableau.specs.Saturation.{Holds, Saturates}
-use Rattle.tableau.proofs.Meanings.{entries_mean}
+use Rattle.tableau.proofs.Meanings.{means, Meaning, holds_entry, entries_mean}
 use Rattle.tableau.proofs.Obligations.{obliging_at}
 use Rattle.tableau.proofs.Tables.{universal_ordered, universal_transitive, universal_top, universal_below, below_top, rule_entry_at, entry_book, entry_everywhere, rooted_book, rooted_everywhere, rooted_holds}
 use Rattle.tableau.proofs.Tabling.{lower, tabled}
@@ -94,10 +93,10 @@ module _ (H : RoleBox) (K : Book) (P : Opens H K) where
           inhabited = L.some;
           inclusions = λ r t e x y l m j.
               and_from (ltb t H.count) (uncut.joins t x y) (lt-ltb t H.count (P.ordered.law.within r t e).1)
-              (F.wider r t x y (universal_below H P.ordered P.few r t e) l m (and_parts (ltb r H.count) (uncut.joins r x y) j).1);
+              (F.inclusions r t (universal_below H P.ordered P.few r t e) x y l m (and_parts (ltb r H.count) (uncut.joins r x y) j).1);
           transitivity = λ r e x y z l m o j k.
               and_from (ltb r H.count) (uncut.joins r x z) (lt-ltb r H.count (P.ordered.inside r e))
-              (F.passes r x y z (universal_transitive H P.ordered P.few r e) l m o (and_parts (ltb r H.count) (uncut.joins r x y) j).1
+              (F.transitivity r (universal_transitive H P.ordered P.few r e) x y z l m o (and_parts (ltb r H.count) (uncut.joins r x y) j).1
               (and_parts (ltb r H.count) (uncut.joins r y z) k).1);
           rules = rules_kept;
         }

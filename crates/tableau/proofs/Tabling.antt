@@ -10,9 +10,10 @@ use Rattle.meaning.specs.declared.Concept.TheVariants.{Nothing, Everything, Name
 use Rattle.meaning.specs.declared.Quantifier.{Quantifier}
 use Rattle.meaning.specs.declared.Quantifier.TheVariants.{Forall}
 use Rattle.tableau.specs.declared.Entry.TheVariants.{Plain}
-use Rattle.tableau.specs.Entries.{LowerEntry, Concepts, Ruling, Tabled}
+use Rattle.tableau.specs.Entries.{LowerEntry}
 use Rattle.tableau.specs.Working.{propagates_by, with_other_role, Propagated, propagated_list, nowhere, plain_of, book_entry, width_of, propagated_entry, entry_of, propagates_of, table_of}
 use Rattle.tableau.specs.Promises.{Opens}
+use Rattle.tableau.proofs.Laws.{Concepts, Ruling, Tabled}
 use Rattle.tableau.proofs.Tests.{never}
 use Rattle.tableau.proofs.Tables.{Place, placed_concept, placed_propagated, placed_rule, placed_book, placed_everywhere, placed_past, placed, Sprung, sprung, springs, universal_transitive, universal_top, transitive_cases, universal_below, universal_ordered, entry_concept, entry_propagated}
 

@@ -3,7 +3,7 @@
 use Rattle.std.proofs.Common.{◌≡◌, ℕ, zero, suc, ◌+◌, ◌<◌, Bool, true, cond, not, eqb, sym, refl, ap, ◌∙◌, ⊎_elim, arith}
 use Rattle.std.proofs.lemmas.Bool.{or_right, cond-true, cond-false, eq-eqb, ne_eqb}
 use Rattle.meaning.specs.Worlds.{Interpretation, deep, holds}
-use Rattle.meaning.specs.Books.{Book, Keeps}
+use Rattle.meaning.specs.Books.{Book, KeepsInclusions, KeepsTransitivity, Keeps}
 use Rattle.meaning.specs.Orders.{RoleBox}
 use Rattle.meaning.specs.Universal.{universal_cases, with_universal}
 use Rattle.meaning.proofs.Tests.{all_from}
@@ -12,8 +12,8 @@ use Rattle.meaning.proofs.Meanings.{denotes_same}
 use Rattle.tableau.specs.declared.Label.{Label}
 use Rattle.tableau.specs.Working.{plain_of, book_entry, everywhere_entry, entry_of, rooted}
 use Rattle.tableau.specs.Promises.{Opens, Satisfies, Seed}
-use Rattle.tableau.specs.Entries.{means, Meaning, deep_entry, holds_entry, Follows}
-use Rattle.tableau.proofs.Meanings.{entries_mean}
+use Rattle.tableau.proofs.Laws.{Follows}
+use Rattle.tableau.proofs.Meanings.{means, Meaning, deep_entry, holds_entry, entries_mean}
 use Rattle.tableau.proofs.Tables.{entry_concept, rule_entry_at, entry_book, entry_everywhere, transitive_cases, rooted_cases}
 use Rattle.tableau.proofs.Agreeing.{holds_agree}
 use Rattle.tableau.proofs.Tabling.{lower}
@@ -68,19 +68,18 @@ module _ (H : RoleBox) (K : Book) (P : Opens H K) where
     module _ (Kp : Keeps H K W) where
       -- its roles are as the hierarchy with the universal role says
       pub follows : Follows (with_universal H) total
-      follows = record { wider = wider; passes = passes }
+      follows = record { inclusions = inclusions; transitivity = transitivity }
         where
-          wider : (r s x y : ℕ) → (with_universal H).below r s ≡ true → x < W.size → y < W.size → total.joins r x y ≡ true → total.joins s x y ≡ true
-          wider r s x y e l m j = ⊎_elim
+          inclusions : KeepsInclusions (with_universal H).below total
+          inclusions r s e x y l m j = ⊎_elim
               (λ top. ap (λ t. total.joins t x y) top.1 ∙ total_role x y)
               (λ h.
               let w = P.ordered.law.within r s h in
               other_role s x y w.1 ∙ Kp.inclusions r s h x y l m (sym (other_role r x y w.0) ∙ j))
               (universal_cases H.count H.below r s e)
 
-          passes : (r x y z : ℕ) → (with_universal H).transitive r ≡ true → x < W.size → y < W.size → z < W.size → total.joins r x y ≡ true
-              → total.joins r y z ≡ true → total.joins r x z ≡ true
-          passes r x y z e l m o j k = ⊎_elim
+          transitivity : KeepsTransitivity (with_universal H).transitive total
+          transitivity r e x y z l m o j k = ⊎_elim
               (λ (top : r ≡ H.count). ap (λ t. total.joins t x z) top ∙ total_role x z)
               (λ h.
               let w = P.ordered.inside r h in

@@ -15,11 +15,13 @@ use Rattle.tableau.specs.declared.Entry.{Entry}
 use Rattle.tableau.specs.declared.Entry.TheVariants.{Plain, Inclusion, Inclusions}
 use Rattle.tableau.specs.declared.Demand.{Demand}
 use Rattle.tableau.specs.Labels.{empty, in_label, contains, lowest}
-use Rattle.tableau.specs.Entries.{Table, LowerEntry, Ordered, means, Meaning, Follows, Concepts, Ruling, Tabled}
+use Rattle.tableau.specs.Entries.{Table, LowerEntry, Ordered}
 use Rattle.tableau.specs.Expansions.{absurd_entry, clash}
 use Rattle.tableau.specs.Seeds.{obliges, sign_of, obliged_at, role_of, seed_of, wants}
 use Rattle.tableau.specs.Found.{is_name, leads, edge, joined, borne, found}
 use Rattle.tableau.specs.Saturation.{Holds, Saturates}
+use Rattle.tableau.proofs.Meanings.{means, Meaning}
+use Rattle.tableau.proofs.Laws.{Follows, Concepts, Ruling, Tabled}
 use Rattle.tableau.proofs.Tests.{never, not_sign}
 use Rattle.tableau.proofs.Labelling.{There, lowest_there, contains_at}
 use Rattle.tableau.proofs.Clashing.{one_sign, no_absurd}
@@ -96,8 +98,8 @@ module _ (H : RoleBox) (O : Ordered H) (B : Table) (ls : List Label) where
   -- the roles of the found world are as the hierarchy says
   pub follows : Follows H (found H B ls)
   follows = record {
-    wider = λ r s x y b lx ly j. joined_wider r s x y b j;
-    passes = λ r x y z t lx ly lz a b.
+    inclusions = λ r s b x y lx ly j. joined_wider r s x y b j;
+    transitivity = λ r t x y z lx ly lz a b.
         chain_joins r r x z t (O.law.reflexive r (O.inside r t))
         (reach_join (length ls) (edge H B ls r) x y z ly (joined_chain r x y a) (joined_chain r y z b));
   }

@@ -5,8 +5,6 @@ use Rattle.meaning.specs.declared.Concept.TheVariants.{Nothing, Everything, Name
 use Rattle.tableau.specs.declared.Label.{Label}
 use Rattle.tableau.specs.declared.Entry.{Entry}
 use Rattle.tableau.specs.declared.Entry.TheVariants.{Plain, Inclusion, Inclusions}
-use Rattle.tableau.specs.declared.Ways.{Ways}
-use Rattle.tableau.specs.declared.Ways.TheVariants.{One, Two}
 use Rattle.tableau.specs.Folds.{fold}
 use Rattle.tableau.specs.Labels.{in_label, put}
 use Rattle.tableau.specs.Entries.{Table}
@@ -29,6 +27,11 @@ clash_at e l i = in_label l true i && in_label l false i || in_label l true i &&
 
 unfoldable pub clash : Table → Label → Bool
 clash B l = any B.width (λ i. clash_at (B.entry i) l i)
+
+-- what an entry that is taken makes of a label: one label, or two alternatives
+pub data Ways : Type 0 where
+  One : Label → Ways
+  Two : Label → Label → Ways
 
 -- nothing is added if an alternative is there (true), else the first is tried before the second
 abbrev pub one_of : Bool → Label → Label → Label → Ways

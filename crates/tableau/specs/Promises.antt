@@ -1,5 +1,5 @@
 -- What a search decides.
-use Rattle.std.specs.Prelude.{◌≡◌, ℕ, ◌^◌, ◌<◌, ◌≤◌, Bool, true, List, [], ◌++◌, length, ◌⊎◌, ◌≢◌, slice_index_or}
+use Rattle.std.specs.Prelude.{◌≡◌, ℕ, ◌^◌, ◌<◌, ◌≤◌, Bool, true, List, [], ◌++◌, length, ◌⊎◌, ◌↔◌, ◌≢◌, slice_index_or}
 use Rattle.meaning.specs.Worlds.{Interpretation, holds}
 use Rattle.meaning.specs.Orders.{RoleBox}
 use Rattle.meaning.specs.Universal.{with_universal}
@@ -54,25 +54,16 @@ SuccessIsRight =
     (H : RoleBox) (K : Book) → Opens H K → (s : Label) → Seed K s → (n : ℕ) (ls : List Label) → search_from H K s n ≡ stands ls
     → Realised H K s ls
 
--- Room: with 3 ^ w nodes the search is never without room, and the labels that stand are pairwise different.
-pub record Roomy (H : RoleBox) (K : Book) (s : Label) (n : ℕ) : Type 0 where
-  pub enough : 3 ^ width_of H K ≤ n → search_from H K s n ≢ full
-  pub distinct : (ls : List Label) → search_from H K s n ≡ stands ls → (i j : ℕ) → i < j → j < length ls → slice_index_or ls i empty ≢ slice_index_or ls j empty
-
+-- Room: with 3 ^ w nodes the search is never without room.
 abbrev pub RoomSuffices : Type 0
-RoomSuffices = (H : RoleBox) (K : Book) → Opens H K → (s : Label) → Seed K s → (n : ℕ) → Roomy H K s n
-
--- A search in n nodes leaves at most n labels.
-abbrev pub SearchWithinRoom : Type 0
-SearchWithinRoom =
-    (H : RoleBox) (K : Book) → Opens H K → (s : Label) → Seed K s → (n : ℕ) (ls : List Label) → search_from H K s n ≡ stands ls
-    → length ls ≤ n
+RoomSuffices = (H : RoleBox) (K : Book) → Opens H K → (s : Label) → Seed K s → (n : ℕ) → 3 ^ width_of H K ≤ n → search_from H K s n ≢ full
 
 -- a moment of the search from the seed: at depth k, with node x at work at entry i, the labels st stand
 abbrev pub MomentOf : RoleBox → Book → Label → ℕ → ℕ → ℕ → ℕ → List Label → Type 0
 MomentOf H K s n = Moment (with_universal H) (table_of H K) n (rooted H K s)
 
--- At every moment the labels that stand are pairwise different and at most n; what a search leaves stands at a moment, too.
+-- At every moment the labels that stand are pairwise different and at most n. What a search leaves stands at a moment, too, so
+-- that it is pairwise different and at most n as well.
 pub record Orderly (H : RoleBox) (K : Book) (s : Label) (n : ℕ) : Type 0 where
   pub distinct : (k x i : ℕ) (st : List Label) → MomentOf H K s n k x i st → Different st
   pub within : (k x i : ℕ) (st : List Label) → MomentOf H K s n k x i st → length st ≤ n
@@ -86,12 +77,8 @@ abbrev pub WantsNode : RoleBox → Book → Label → ℕ → Type 0
 WantsNode H K s n = (n ≡ 0) ⊎ Crowded (with_universal H) (table_of H K) n (rooted H K s)
 
 -- Full is right: the search is full exactly where a node is wanted while all n stand.
-pub record FullExactly (H : RoleBox) (K : Book) (s : Label) (n : ℕ) : Type 0 where
-  pub wanted : search_from H K s n ≡ full → WantsNode H K s n
-  pub refused : WantsNode H K s n → search_from H K s n ≡ full
-
 abbrev pub FullIsRight : Type 0
-FullIsRight = (H : RoleBox) (K : Book) → Opens H K → (s : Label) → Seed K s → (n : ℕ) → FullExactly H K s n
+FullIsRight = (H : RoleBox) (K : Book) → Opens H K → (s : Label) → Seed K s → (n : ℕ) → (search_from H K s n ≡ full) ↔ WantsNode H K s n
 
 -- The edges are those chosen: for as long as the labels stand that were left when an obligation was met, the lowest node
 -- that contains its seed is the one chosen then; and in the end every obligation of every node has been met so.
@@ -118,10 +105,8 @@ Empty H K a = (W : Interpretation) → Keeps H K W → (x : ℕ) → x < W.size 
 -- The search decides: with room enough, "a not b" fails exactly when every finite world that keeps the book puts all of a
 -- into b, and "a" alone exactly when none has an individual in a.
 pub record DecidesBySearch (H : RoleBox) (K : Book) (n : ℕ) : Type 0 where
-  pub subsumed : (a b : ℕ) → a < K.entries → b < K.entries → search_from H K (seed_of_not a b) n ≡ failed → Subsumed H K a b
-  pub fails : (a b : ℕ) → a < K.entries → b < K.entries → Subsumed H K a b → search_from H K (seed_of_not a b) n ≡ failed
-  pub none : (a : ℕ) → a < K.entries → search_from H K (seed_of_one a) n ≡ failed → Empty H K a
-  pub fails_alone : (a : ℕ) → a < K.entries → Empty H K a → search_from H K (seed_of_one a) n ≡ failed
+  pub not_fails : (a b : ℕ) → a < K.entries → b < K.entries → (search_from H K (seed_of_not a b) n ≡ failed) ↔ Subsumed H K a b
+  pub one_fails : (a : ℕ) → a < K.entries → (search_from H K (seed_of_one a) n ≡ failed) ↔ Empty H K a
 
 abbrev pub SearchDecides : Type 0
 SearchDecides = (H : RoleBox) (K : Book) → Opens H K → (n : ℕ) → 3 ^ width_of H K ≤ n → DecidesBySearch H K n

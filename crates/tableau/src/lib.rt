@@ -5,8 +5,8 @@
 ghost use Rattle.std.specs.Prelude.{◌≡◌, ℕ, ◌<◌, ◌||◌};
 ghost use Rattle.words.specs.Sets.{has};
 ghost use Rattle.tableau.specs.Labels.{in_label, sign_at, put, put_all, joined, common, contains};
-ghost use Rattle.tableau.specs.Examples.{WorkedExamples, ExamplesOpen};
-ghost use Rattle.tableau.specs.Promises.{FailureIsRight, SuccessIsRight, RoomSuffices, SearchWithinRoom, StandingLabelsDiffer, FullIsRight, EdgesAreThoseChosen, SearchDecides};
+ghost use Rattle.tableau.specs.Examples.{ExamplesOpen};
+ghost use Rattle.tableau.specs.Promises.{FailureIsRight, SuccessIsRight, RoomSuffices, StandingLabelsDiffer, FullIsRight, EdgesAreThoseChosen, SearchDecides};
 
 use meaning::Concept;
 
@@ -119,14 +119,6 @@ pub enum Entry {
     Inclusions(u8, u8),
 }
 
-// What an entry that is taken makes of a label: one label, or two alternatives.
-// Stays: neither way is a lack or a refusal, so that an Option of the second label would say less than the two names.
-#[derive(Clone, Copy)]
-pub enum Ways {
-    One(Label),
-    Two(Label, Label),
-}
-
 // What an entry that obliges a node asks for: a successor by the role, in the part (true) or outside it.
 // Stays: the sign is a bool, as in a label.
 #[derive(Clone, Copy)]
@@ -136,12 +128,7 @@ pub struct Demand {
     pub part: u8,
 }
 
-// The worked examples hold of the definitions.
-pub fn examples_hold()
-    ensures { WorkedExamples }
-{}
-
-// Both worked books open: the theorems speak of them.
+// Both books of the examples open: the theorems speak of them.
 pub fn examples_open()
     ensures { ExamplesOpen }
 {}
@@ -156,17 +143,12 @@ pub fn success_is_right()
     ensures { SuccessIsRight }
 {}
 
-// With 3 ^ w nodes the search is never without room, and labels that stand are pairwise different.
+// With 3 ^ w nodes the search is never without room.
 pub fn room_suffices()
     ensures { RoomSuffices }
 {}
 
-// A search in n nodes leaves at most n labels.
-pub fn search_within_room()
-    ensures { SearchWithinRoom }
-{}
-
-// At every moment of a search the labels that stand are pairwise different, and at most n.
+// At every moment of a search the labels that stand are pairwise different, and at most n; so are those that it leaves.
 pub fn standing_labels_differ()
     ensures { StandingLabelsDiffer }
 {}

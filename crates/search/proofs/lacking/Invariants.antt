@@ -1,5 +1,5 @@
 use Rattle.std.proofs.Common.{length}
-use Rattle.search.specs.Nodes.{Go, measure}
+use Rattle.search.specs.Loop.{Go, measure}
 use Rattle.search.proofs.Steps.{Along}
 use Rattle.search.proofs.lacking.Given as goal
 

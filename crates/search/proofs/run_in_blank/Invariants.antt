@@ -1,5 +1,5 @@
 use Rattle.std.proofs.Common.{◌≡◌, length}
-use Rattle.search.specs.Nodes.{Try, Fit, value, measure}
+use Rattle.search.specs.Loop.{Try, Fit, value, measure}
 use Rattle.search.proofs.run_in_blank.Given as goal
 
 abbrev pub invariant-turn : goal.invariant-turn
