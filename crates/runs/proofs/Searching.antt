@@ -13,7 +13,7 @@ use Rattle.tableau.specs.Promises.{Opens, search_from, found_world, Realised}
 use Rattle.tableau.proofs.Labelling.{put_in, put_keeps}
 use Rattle.tableau.proofs.Succeeding.{success_is_right}
 use Rattle.tableau.proofs.Deciding.{failure_is_right, room_suffices, seed_not_fits, seed_one_fits, satisfies_one, satisfies_not}
-use Rattle.runs.specs.Setups.{setup, root_in, search_in, SearchesAgree, apart}
+use Rattle.runs.specs.Setups.{setup, root_in, search_in, SearchesAgree, stand, apart}
 use Rattle.runs.specs.Steps.{given}
 use Rattle.runs.specs.Runs.{Separated}
 
@@ -109,7 +109,7 @@ module _ (H : RoleBox) (K : Book) (P : Opens H K) where
 
     pub apart_failed : (a b n : ℕ) → given cs a ≡ true → given cs b ≡ true → apart (setup H K) cs a b n ≡ failed
         → (W : Interpretation) → Keeps H K W → (x : ℕ) → x < W.size → member K cs W a x ≡ true → member K cs W b x ≡ false → ⊥
-    unfolding apart
+    unfolding stand
     apart_failed zero b n g h e W keeps x l i o = let z : ◌≡◌ {A = ℕ} 0 1 = cc in omega arith
     apart_failed (suc a) zero n g h e W keeps x l i o =
         one_failed (get_or cs a 0) n (under a g) e (record { world = W; keeps = keeps; individual = x; there = l; inside = i })
@@ -119,7 +119,7 @@ module _ (H : RoleBox) (K : Book) (P : Opens H K) where
 
     pub apart_stood : (a b n : ℕ) → given cs a ≡ true → given cs b ≡ true → (ls : List Label) → apart (setup H K) cs a b n ≡ stands ls
         → Apart H K cs a b (found_world H K ls) × (0 < length ls)
-    unfolding apart
+    unfolding stand
     apart_stood zero b n g h ls e = absurd (let z : ◌≡◌ {A = ℕ} 0 1 = cc in omega arith)
     apart_stood (suc a) zero n g h ls e =
         let r = one_stood (get_or cs a 0) n (under a g) ls e in
@@ -129,7 +129,7 @@ module _ (H : RoleBox) (K : Book) (P : Opens H K) where
         (record { keeps = r.keeps; inside = not_inside (get_or cs a 0) (get_or cs b 0) ls r; outside = not_outside (get_or cs a 0) (get_or cs b 0) ls r }, r.inhabited)
 
     pub apart_full : (a b n : ℕ) → given cs a ≡ true → given cs b ≡ true → 3 ^ width_of H K ≤ n → apart (setup H K) cs a b n ≡ full → ⊥
-    unfolding apart
+    unfolding stand
     apart_full zero b n g h room e = let z : ◌≡◌ {A = ℕ} 0 1 = cc in omega arith
     apart_full (suc a) zero n g h room e = one_full (get_or cs a 0) n (under a g) room e
     apart_full (suc a) (suc b) n g h room e = not_full (get_or cs a 0) (get_or cs b 0) n (under a g) (under b h) room e

@@ -1,5 +1,5 @@
 -- What a register keeps of a book and a hierarchy, and the searches that it makes.
-use Rattle.std.specs.Prelude.{◌≡◌, ℕ, zero, suc, ◌-◌, true, List, [], slice_index}
+use Rattle.std.specs.Prelude.{◌≡◌, ℕ, zero, suc, ◌-◌, true, List, [], Some, None, Option, slice_index}
 use Rattle.meaning.specs.Worlds.{Interpretation}
 use Rattle.meaning.specs.Orders.{RoleBox}
 use Rattle.meaning.specs.Universal.{with_universal}
@@ -46,9 +46,18 @@ pub record SameSearches (H : RoleBox) (K : Book) : Type 0 where
 abbrev pub SearchesAgree : Type 0
 SearchesAgree = (H : RoleBox) (K : Book) → SameSearches H K
 
--- "a not b" for class numbers, the classes from 1 on standing by the entries of the list: the search for an individual of a
--- that is not of b. Class 0 is nothing: as b it is left out, and as a it has no world.
-unfoldable pub apart : Setup → List ℕ → ℕ → ℕ → ℕ → Outcome
-apart S cs zero b n = failed
-apart S cs (suc a) zero n = search_in S (seed_of_one (slice_index cs a)) n
-apart S cs (suc a) (suc b) n = search_in S (seed_of_not (slice_index cs a) (slice_index cs b)) n
+-- the entry by which the class of the number stands, the classes from 1 on standing by the entries of the list; none for class 0
+unfoldable pub stand : List ℕ → ℕ → Option ℕ
+stand cs zero = None
+stand cs (suc k) = Some (slice_index cs k)
+
+-- The search for an individual of one class that is not of another, by the entries by which the classes stand. Class 0 is
+-- nothing: as the other it is left out, and as the one it has no world.
+abbrev pub apart_by : Setup → Option ℕ → Option ℕ → ℕ → Outcome
+apart_by S None b n = failed
+apart_by S (Some a) None n = search_in S (seed_of_one a) n
+apart_by S (Some a) (Some b) n = search_in S (seed_of_not a b) n
+
+-- "a not b" for class numbers
+abbrev pub apart : Setup → List ℕ → ℕ → ℕ → ℕ → Outcome
+apart S cs a b n = apart_by S (stand cs a) (stand cs b) n
