@@ -18,20 +18,8 @@ use Rattle.search.specs.declared.NoRoom.{NoRoom}
 use Rattle.search.specs.Nodes.{labels, label_of, Says}
 use Rattle.found.specs.Founds.{found_in, finding}
 use Rattle.model.proofs.Same.{find_some}
-use Rattle.runs.specs.Steps.{shown, refusal, Showed, showed, showed_world, showed_first, showing}
-use Rattle.runs.specs.Setups.{Setup, apart}
-use Rattle.register.specs.Registers.{setup_in, stand}
-use Rattle.register.specs.Showing.{apart_by, separating}
-
--- showing goes by the entries by which the classes stand
-pub separating_shows : (S : Setup) (cs : List ℕ) (a b n : ℕ) (words : List ℕ) → separating S a (stand cs a) (stand cs b) n words ≡ showing S cs a b n words
-unfolding showing apart stand
-separating_shows S cs a b n words = λ i. showed_first S a words (sym (apart_stands a b) i) (λ u. sym (apart_stands b a) i)
-  where
-    apart_stands : (a b : ℕ) → apart S cs a b n ≡ apart_by S (stand cs a) (stand cs b) n
-    apart_stands zero b = refl
-    apart_stands (suc a) zero = refl
-    apart_stands (suc a) (suc b) = refl
+use Rattle.runs.specs.Steps.{shown, refusal, Showed, showed, showed_world}
+use Rattle.register.specs.Registers.{setup_in}
 
 -- a search that stands has a node
 pub some_node : (p : Plan) (n : ℕ) (seed : Label) (nodes : List Node) (r : Result (Option ℕ) NoRoom) → Says nodes r (explore (box_in p) (table_in p) n n [] seed)

@@ -1,5 +1,5 @@
 -- What a register holds and answers, as the definitions of a run speak of it.
-use Rattle.std.specs.Prelude.{ℕ, zero, suc, List, Some, None, Option, Ok, Err, Result, slice_index}
+use Rattle.std.specs.Prelude.{ℕ, List, Ok, Err, Result}
 use Rattle.denial.specs.Denials.{denial_report}
 use Rattle.denial.specs.declared.Denial.{Denial}
 use Rattle.plan.specs.declared.Plan.{Plan}
@@ -19,11 +19,6 @@ setup_of g = setup_in g.plan g.entries
 -- the entries by which the classes stand, that of class 1 first
 abbrev pub classes_of : Register → List ℕ
 classes_of g = g.classes
-
--- the entry by which the class of the number stands; none for class 0
-unfoldable pub stand : List ℕ → ℕ → Option ℕ
-stand cs zero = None
-stand cs (suc k) = Some (slice_index cs k)
 
 -- the reply of a result, where `view` says what the value tells
 abbrev pub reply_of : {A : Type 0} → (A → Reply) → Result A Denial → Reply

@@ -11,7 +11,7 @@ use search::{Node, Workspace, wipe};
 impl Register {
     // Whether every finite world that keeps the book puts all of class a into class b. Refused with 9 where a number was not
     // given yet, the first looked at first, and with 15 where the nodes do not suffice. Every node is blank after it.
-    #[tactic(auto, unfolding(crate::specs::Registers::stand, runs::specs::Steps::asking, runs::specs::Setups::apart))]
+    #[tactic(auto, unfolding(runs::specs::Setups::stand, runs::specs::Steps::asking))]
     pub fn ask(&self, a: usize, b: usize, nodes: &mut [Node]) -> Result<bool, Denial>
         ensures { done (reply_of said result) self.now nodes.new [] ≡ step (setup_of self.now) (classes_of self.now) (Call.ask a b (length nodes.old)) }
     {

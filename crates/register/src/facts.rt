@@ -1,7 +1,8 @@
 // What a register tells of itself.
 ghost use Rattle.std.specs.Prelude.{◌≡◌, ◌<◌, ◌≤◌, length, IfErr, IfOk, IfSome, OnOk};
 ghost use Rattle.denial.specs.declared.Denial.{Denial};
-ghost use Rattle.register.specs.Registers.{setup_of, classes_of, stand};
+ghost use Rattle.runs.specs.Setups.{stand};
+ghost use Rattle.register.specs.Registers.{setup_of, classes_of};
 
 use crate::Register;
 use denial::Denial;
@@ -29,7 +30,7 @@ impl Register {
     }
 
     // The entry by which the class stands; none for class 0, which is nothing. Refused with 9 where the number was not given.
-    #[tactic(auto, unfolding(crate::specs::Registers::stand))]
+    #[tactic(auto, unfolding(runs::specs::Setups::stand))]
     pub(crate) fn stand(&self, class: usize) -> Result<Option<usize>, Denial>
         ensures given { OnOk result (class ≤ length (classes_of self.now)) }
         ensures value { IfOk result (λ entry. entry ≡ stand (classes_of self.now) class) }

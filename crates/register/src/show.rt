@@ -1,9 +1,10 @@
 // Showing: a world that holds two classes apart.
 ghost use Rattle.std.specs.Prelude.{◌≡◌, ◌<◌, length, replicate, IfOk, IfSome};
 ghost use Rattle.search.specs.Nodes.{blank, labels, Says};
-ghost use Rattle.runs.specs.Steps.{Call, showed_world, step};
+ghost use Rattle.runs.specs.Setups.{apart_by};
+ghost use Rattle.runs.specs.Steps.{Call, separating, showed_world, step};
 ghost use Rattle.register.specs.Registers.{setup_of, classes_of, reply_of, done};
-ghost use Rattle.register.specs.Showing.{side_number, shown_reply, apart_by, separating};
+ghost use Rattle.register.specs.Showing.{side_number, shown_reply};
 
 use crate::Register;
 use crate::searches::{rooted, seed_not, seed_one};
@@ -32,6 +33,7 @@ impl Register {
     // way round. Refused with 9 where a number was not given yet, the first looked at first; with 16 where the numbers are
     // equal; with 15 where the nodes do not suffice; with 17 where the world has more than 64 individuals; and with 11 where
     // the words do not suffice. Then the sheet stays as it was, as do words past those needed. Every node is blank after it.
+    #[tactic(auto, unfolding(runs::specs::Steps::showing))]
     pub fn show(
         &self,
         a: usize,

@@ -1,6 +1,6 @@
 -- What an ask and a show come to, on classes that are kept.
 use Rattle.std.proofs.Common.{◌≡◌, ℕ, zero, suc, ◌<◌, ◌≤◌, Bool, true, false, not, eqb, leb, ◌⊎◌, List, length, refl, ap, inl, inr, ⊎_elim, arith}
-use Rattle.std.proofs.lemmas.Bool.{cases_Bool, cond_both, leb-true, eqb-true, both_ways}
+use Rattle.std.proofs.lemmas.Bool.{cases_Bool, cond_both, not-false, leb-true, eqb-true, both_ways}
 use Rattle.denial.specs.declared.Report.{Report}
 use Rattle.meaning.specs.Orders.{RoleBox}
 use Rattle.meaning.specs.Books.{Book}
@@ -12,7 +12,7 @@ use Rattle.drawing.specs.Drawings.{drawn_on}
 use Rattle.runs.specs.Setups.{setup, apart}
 use Rattle.runs.specs.Steps.{Reply, class, said, shown, refused, refusal, given, told_ask, asking, Showed, showed_world, showed_second, showed_first, showing, ask_step, show_step}
 use Rattle.runs.proofs.Searching.{member, Apart, Under, apart_failed, apart_stood, apart_full}
-use Rattle.runs.proofs.Filing.{next_cases, not_false, Kept, RefusedRight}
+use Rattle.runs.proofs.Filing.{next_cases, Kept, RefusedRight}
 
 -- what an answer says of the classes
 pub record SaidRight (H : RoleBox) (K : Book) (cs : List ℕ) (a b : ℕ) (s : Bool) : Type 0 where
@@ -104,7 +104,7 @@ module _ (H : RoleBox) (K : Book) (P : Opens H K) (cs : List ℕ) (kept : Kept H
       (λ t. record { room = λ x r. omega arith })
       (λ t. next_cases (AskRight H K cs a b n) (not (given cs b)) _ _
       (λ u. record { room = λ x r. omega arith })
-      (λ u. asking_right a b (not_false (given cs a) t) (not_false (given cs b) u)))
+      (λ u. asking_right a b (not-false (given cs a) t) (not-false (given cs b) u)))
 
   -- two class numbers, neither of which is apart from the other, are equal
   both_failed : (a b : ℕ) → given cs a ≡ true → given cs b ≡ true → apart (setup H K) cs a b n ≡ failed → apart (setup H K) cs b a n ≡ failed → a ≡ b
@@ -169,4 +169,4 @@ module _ (H : RoleBox) (K : Book) (P : Opens H K) (cs : List ℕ) (kept : Kept H
       (λ u. otherwise 9 b a b words (λ e. omega arith) (λ e. omega arith))
       (λ u. next_cases (ShowedRight H K cs a b n words) (eqb a b) _ _
       (λ v. (refl, record { room = record { room = λ x r. omega arith }; equal = λ x. eqb-true a b v }))
-      (λ v. showing_right a b words (not_false (given cs a) t) (not_false (given cs b) u))))
+      (λ v. showing_right a b words (not-false (given cs a) t) (not-false (given cs b) u))))

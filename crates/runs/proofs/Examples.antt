@@ -17,14 +17,14 @@ use Rattle.tableau.specs.Search.{or_else, and_then, reuse, pursue, meet_from, tr
 use Rattle.tableau.specs.Found.{leads, edge, joined, borne}
 use Rattle.tableau.specs.Working.{propagated_list, entry_of, propagates_of}
 use Rattle.drawing.specs.Drawings.{word_at, words_of, drawn_on}
-use Rattle.runs.specs.Setups.{apart}
+use Rattle.runs.specs.Setups.{stand}
 use Rattle.runs.specs.Steps.{compared, placed, placing, asking, showing}
 use Rattle.runs.specs.Runs.{history}
 use Rattle.runs.specs.Examples.{RegisterExamples}
 
 -- each by computing it
 pub register_examples : RegisterExamples
-unfolding has set_of any all first reach kind_of named number16 section_from laying checking reading told closure fold gather empty in_label put contains any_contains lowest clash taken branch expand expansions told_propagated seed_of or_else and_then reuse pursue meet_from try_each enter explore leads edge joined borne propagated_list entry_of propagates_of word_at words_of drawn_on apart compared placed placing asking showing history
+unfolding has set_of any all first reach kind_of named number16 section_from laying checking reading told closure fold gather empty in_label put contains any_contains lowest clash taken branch expand expansions told_propagated seed_of or_else and_then reuse pursue meet_from try_each enter explore leads edge joined borne propagated_list entry_of propagates_of word_at words_of drawn_on stand compared placed placing asking showing history
 register_examples = record {
   a_width = refl;
   b_width = refl;

@@ -2,7 +2,7 @@
 use Rattle.std.proofs.Common.{◌≡◌, ℕ, zero, suc, ◌+◌, ◌^◌, ◌<◌, ◌≤◌, Bool, true, false, not, ltb, ◌⊎◌, List, [], ◌∷◌, ◌++◌, length, get_or, Some, None, Option, Ok, Err, Result, sym, refl, ◌∙◌, subst, inl, inr, ⊎_elim, arith, length-append}
 use lib.Seq.{get_or-append_seam}
 use Rattle.std.proofs.lemmas.List.{get_or_append_left}
-use Rattle.std.proofs.lemmas.Bool.{cases_lt, cond_both, ltb-true}
+use Rattle.std.proofs.lemmas.Bool.{cases_lt, cond_both, not-false, ltb-true}
 use Rattle.denial.specs.declared.Denial.{Denial}
 use Rattle.denial.specs.declared.Report.{Report}
 use Rattle.meaning.specs.Orders.{RoleBox}
@@ -20,10 +20,6 @@ use Rattle.runs.proofs.Searching.{Inhabited, not_failed, not_separated, not_full
 pub next_cases : {A : Type 0} (Q : A → Type 0) (b : Bool) (x : A) (next : Unit {0} → A) → (b ≡ true → Q x) → (b ≡ false → Q (next tt)) → Q (or_next b x next)
 next_cases Q true x next f g = f refl
 next_cases Q false x next f g = g refl
-
-pub not_false : (b : Bool) → not b ≡ false → b ≡ true
-not_false true e = refl
-not_false false e = sym e
 
 -- What is true of the classes at all times: they stand by entries of the book, some world has an individual in each, and
 -- no two of them are inseparable.
@@ -180,4 +176,4 @@ pub file_right : (H : RoleBox) (K : Book) → Opens H K → (cs : List ℕ) → 
 file_right H K P cs kept e n =
     next_cases (λ f. FileRight H K cs e n f.reply f.classes) (not (ltb e K.entries)) (filed (refusal 8 e) cs) (λ u. filed_at cs e (placing (setup H K) cs e n))
     (λ t. (refl, record { room = λ x r. omega arith }))
-    (λ t. filing_right H K P e n (ltb-true e K.entries (not_false (ltb e K.entries) t)) cs kept)
+    (λ t. filing_right H K P e n (ltb-true e K.entries (not-false (ltb e K.entries) t)) cs kept)

@@ -13,7 +13,7 @@ use Rattle.tableau.specs.Promises.{Opens, search_from, found_world, Realised}
 use Rattle.tableau.proofs.Labelling.{put_in, put_keeps}
 use Rattle.tableau.proofs.Succeeding.{success_is_right}
 use Rattle.tableau.proofs.Deciding.{failure_is_right, room_suffices, seed_not_fits, seed_one_fits, satisfies_one, satisfies_not}
-use Rattle.runs.specs.Setups.{setup, root_in, search_in, apart}
+use Rattle.runs.specs.Setups.{setup, root_in, search_in, SearchesAgree, stand, apart}
 use Rattle.runs.specs.Steps.{given}
 use Rattle.runs.specs.Runs.{Separated}
 
@@ -40,17 +40,23 @@ pub record Apart (H : RoleBox) (K : Book) (cs : List ℕ) (a b : ℕ) (W : Inter
 abbrev pub Under : RoleBox → Book → List ℕ → ℕ → ℕ → Type 0
 Under H K cs a b = (W : Interpretation) → Keeps H K W → (x : ℕ) → x < W.size → member K cs W a x ≡ true → member K cs W b x ≡ true
 
-module _ (H : RoleBox) (K : Book) (P : Opens H K) where
-  -- book and everywhere are the last two working entries
-  root_same : (s : Label) → root_in (table_of H K) s ≡ rooted H K s
-  root_same s =
-      let last : width_of H K - 1 ≡ everywhere_entry H K = omega arith in
-      let other : width_of H K - 2 ≡ book_entry H K = omega arith in
-      ap (λ k. put true k (put true (width_of H K - 2) s)) last ∙ ap (λ k. put true (everywhere_entry H K) (put true k s)) other
+-- book and everywhere are the last two working entries
+root_same : (H : RoleBox) (K : Book) (s : Label) → root_in (table_of H K) s ≡ rooted H K s
+root_same H K s =
+    let last : width_of H K - 1 ≡ everywhere_entry H K = omega arith in
+    let other : width_of H K - 2 ≡ book_entry H K = omega arith in
+    ap (λ k. put true k (put true (width_of H K - 2) s)) last ∙ ap (λ k. put true (everywhere_entry H K) (put true k s)) other
 
-  -- the register's search is the one of the theorems
+-- the searches of a register are those of the theorems
+pub searches_agree : SearchesAgree
+searches_agree H K = record {
+  outcome = λ s n. ap (explore (with_universal H) (table_of H K) n n []) (root_same H K s);
+  world = λ ls. refl;
+}
+
+module _ (H : RoleBox) (K : Book) (P : Opens H K) where
   search_same : (s : Label) (n : ℕ) → search_from H K s n ≡ search_in (setup H K) s n
-  search_same s n = sym (ap (explore (with_universal H) (table_of H K) n n []) (root_same s))
+  search_same s n = sym ((searches_agree H K).outcome s n)
 
   -- "a not b" fails: no world holds an individual of a outside b
   pub not_failed : (a b n : ℕ) → a < K.entries → b < K.entries → search_in (setup H K) (seed_of_not a b) n ≡ failed → Separated H K a b → ⊥
@@ -103,7 +109,7 @@ module _ (H : RoleBox) (K : Book) (P : Opens H K) where
 
     pub apart_failed : (a b n : ℕ) → given cs a ≡ true → given cs b ≡ true → apart (setup H K) cs a b n ≡ failed
         → (W : Interpretation) → Keeps H K W → (x : ℕ) → x < W.size → member K cs W a x ≡ true → member K cs W b x ≡ false → ⊥
-    unfolding apart
+    unfolding stand
     apart_failed zero b n g h e W keeps x l i o = let z : ◌≡◌ {A = ℕ} 0 1 = cc in omega arith
     apart_failed (suc a) zero n g h e W keeps x l i o =
         one_failed (get_or cs a 0) n (under a g) e (record { world = W; keeps = keeps; individual = x; there = l; inside = i })
@@ -113,7 +119,7 @@ module _ (H : RoleBox) (K : Book) (P : Opens H K) where
 
     pub apart_stood : (a b n : ℕ) → given cs a ≡ true → given cs b ≡ true → (ls : List Label) → apart (setup H K) cs a b n ≡ stands ls
         → Apart H K cs a b (found_world H K ls) × (0 < length ls)
-    unfolding apart
+    unfolding stand
     apart_stood zero b n g h ls e = absurd (let z : ◌≡◌ {A = ℕ} 0 1 = cc in omega arith)
     apart_stood (suc a) zero n g h ls e =
         let r = one_stood (get_or cs a 0) n (under a g) ls e in
@@ -123,7 +129,7 @@ module _ (H : RoleBox) (K : Book) (P : Opens H K) where
         (record { keeps = r.keeps; inside = not_inside (get_or cs a 0) (get_or cs b 0) ls r; outside = not_outside (get_or cs a 0) (get_or cs b 0) ls r }, r.inhabited)
 
     pub apart_full : (a b n : ℕ) → given cs a ≡ true → given cs b ≡ true → 3 ^ width_of H K ≤ n → apart (setup H K) cs a b n ≡ full → ⊥
-    unfolding apart
+    unfolding stand
     apart_full zero b n g h room e = let z : ◌≡◌ {A = ℕ} 0 1 = cc in omega arith
     apart_full (suc a) zero n g h room e = one_full (get_or cs a 0) n (under a g) room e
     apart_full (suc a) (suc b) n g h room e = not_full (get_or cs a 0) (get_or cs b 0) n (under a g) (under b h) room e

@@ -13,7 +13,7 @@ use Rattle.search.specs.declared.Node.{Node}
 use Rattle.search.specs.Nodes.{blank}
 use Rattle.sheet.specs.Sheets.{needed}
 use Rattle.drawing.specs.Drawings.{drawn_on}
-use Rattle.runs.specs.Setups.{Setup, search_in, world_in, apart}
+use Rattle.runs.specs.Setups.{Setup, search_in, world_in, stand, apart_by, apart}
 
 -- a call, with how many nodes and, for show, which words it was lent
 pub data Call : Type 0 where
@@ -142,9 +142,12 @@ showed_first S a words failed second = showed_second S a words (second tt)
 showed_first S a words full second = showed (refusal 15 a) words
 showed_first S a words (stands ls) second = showed_world S words 1 ls
 
--- a world of one side, or else of the other
+-- a world of one side, or else of the other, by the entries by which the classes stand
+abbrev pub separating : Setup → ℕ → Option ℕ → Option ℕ → ℕ → List ℕ → Showed
+separating S a first second n words = showed_first S a words (apart_by S first second n) (λ u. apart_by S second first n)
+
 unfoldable pub showing : Setup → List ℕ → ℕ → ℕ → ℕ → List ℕ → Showed
-showing S cs a b n words = showed_first S a words (apart S cs a b n) (λ u. apart S cs b a n)
+showing S cs a b n words = separating S a (stand cs a) (stand cs b) n words
 
 -- x where the test holds, else what comes next
 abbrev pub or_next : {A : Type 0} → Bool → A → (Unit {0} → A) → A

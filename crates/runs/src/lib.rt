@@ -3,6 +3,7 @@
 #![tactic(auto)]
 
 ghost use Rattle.runs.specs.Examples.{RegisterExamples};
+ghost use Rattle.runs.specs.Setups.{SearchesAgree};
 ghost use Rattle.runs.specs.Runs.{RunsByCalls, EveryRunIsRight, RefusalsChangeNothing};
 
 // What class numbers, answers and shown worlds mean, in every run.
@@ -13,6 +14,11 @@ pub fn every_run_is_right()
 // A call that is refused changes nothing.
 pub fn refusals_change_nothing()
     ensures { RefusalsChangeNothing }
+{}
+
+// The searches of a register are those that the theorems about the search speak of.
+pub fn searches_agree()
+    ensures { SearchesAgree }
 {}
 
 // The worked examples hold of the definitions.
