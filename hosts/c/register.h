@@ -36,8 +36,12 @@ enum register_answer {
 
 /*
  * How two entries of a book, by their numbers from 0, stand to each other. The book is `length` bytes from `book` on, which
- * the call only reads; `book` must not be NULL, even where `length` is 0. Every other argument is allowed. The call keeps
- * nothing, allocates nothing and works on the stack, so that several threads may make it at once.
+ * the call only reads, and which must not change during the call; `book` must not be NULL, even where `length` is 0. Every
+ * other argument is allowed.
+ *
+ * The call allocates nothing and keeps nothing: all that it writes is on its stack, and the library has no variables of its
+ * own. So several threads may make it at once; that is neither proved nor tested. It can take very long. README.md tells how
+ * much stack it took.
  */
 uint32_t register_relation(const uint8_t *book, size_t length, size_t first, size_t second);
 
