@@ -7,7 +7,7 @@
 //!     model gen SEED INDEX                 the script of one book
 //!     model batch SEED FIRST COUNT SCRIPT KINDS
 //!                                          the scripts of so many books in one file, and a line for each in another:
-//!                                          index, lines or `skipped`, kind
+//!                                          index, lines or `skipped`, working entries, kind
 
 mod book;
 mod books;
@@ -38,7 +38,7 @@ fn meter() -> search::Meter {
 
 fn run_calls(numbered: bool) {
     let script = input();
-    let mut out = Vec::new();
+    let mut out = std::io::BufWriter::new(std::io::stdout());
     let mut session = calls::Session::new(LIMIT);
     let mut lines: Vec<&[u8]> = script.split(|&b| b == b'\n').collect();
     if lines.last().is_some_and(|l| l.is_empty()) {
@@ -56,7 +56,7 @@ fn run_calls(numbered: bool) {
             writeln!(out, "{text}").unwrap();
         }
     }
-    std::io::stdout().write_all(&out).unwrap();
+    out.flush().unwrap();
 }
 
 fn relation_line(hex: &str, first: &str, second: &str) -> String {
@@ -74,13 +74,13 @@ fn batch(seed: u64, first: u64, count: u64, script: &str, kinds: &str) {
     for index in first..first + count {
         match scripts::script(seed, index, LIMIT) {
             Ok(made) => {
-                table += &format!("{index} {} {}\n", made.lines.len(), made.kind);
+                table += &format!("{index} {} {} {}\n", made.lines.len(), made.width, made.kind);
                 for line in made.lines {
                     text.extend(line);
                     text.push(b'\n');
                 }
             }
-            Err(kind) => table += &format!("{index} skipped {kind}\n"),
+            Err(kind) => table += &format!("{index} skipped 0 {kind}\n"),
         }
     }
     std::fs::write(script, text).expect("the script can be written");
