@@ -7,7 +7,10 @@
 //!     model gen SEED INDEX                 the script of one book
 //!     model batch SEED FIRST COUNT SCRIPT KINDS
 //!                                          the scripts of so many books in one file, and a line for each in another:
-//!                                          index, lines or `skipped`, kind
+//!                                          index, lines or `skipped`, working entries, kind
+//!     model count ENTRY STEPS [remember]   what the search for an individual in an entry of the book on standard input does, in 64
+//!                                          nodes and at most so many steps: how it ends, nodes made, different seeds, nodes that
+//!                                          failed, different seeds of these, ends; with `remember` failed seeds are not tried again
 
 mod book;
 mod books;
@@ -38,7 +41,7 @@ fn meter() -> search::Meter {
 
 fn run_calls(numbered: bool) {
     let script = input();
-    let mut out = Vec::new();
+    let mut out = std::io::BufWriter::new(std::io::stdout());
     let mut session = calls::Session::new(LIMIT);
     let mut lines: Vec<&[u8]> = script.split(|&b| b == b'\n').collect();
     if lines.last().is_some_and(|l| l.is_empty()) {
@@ -56,7 +59,7 @@ fn run_calls(numbered: bool) {
             writeln!(out, "{text}").unwrap();
         }
     }
-    std::io::stdout().write_all(&out).unwrap();
+    out.flush().unwrap();
 }
 
 fn relation_line(hex: &str, first: &str, second: &str) -> String {
@@ -68,19 +71,33 @@ fn relation_line(hex: &str, first: &str, second: &str) -> String {
     }
 }
 
+fn count(entry: usize, steps: u64, remember: bool) {
+    let book = book::read(&input()).expect("a good book");
+    let plan = search::Plan::new(&book, &roles::Hierarchy::of_book(&book)).expect("a book that opens");
+    let mut tally = search::Tally { remember, ..Default::default() };
+    let seed = search::Label::EMPTY.with(entry, true);
+    let how = match plan.counted(seed, 64, &mut search::Meter { left: steps, peak: 0 }, Some(&mut tally)) {
+        Ok(Some(_)) => "stands",
+        Ok(None) => "fails",
+        Err(search::Halt::Full) => "full",
+        Err(search::Halt::Limit) => "stopped",
+    };
+    println!("{how} {} {} {} {} {}", tally.made, tally.seeds.len(), tally.failed, tally.failed_seeds.len(), tally.ends);
+}
+
 fn batch(seed: u64, first: u64, count: u64, script: &str, kinds: &str) {
     let mut text = Vec::new();
     let mut table = String::new();
     for index in first..first + count {
         match scripts::script(seed, index, LIMIT) {
             Ok(made) => {
-                table += &format!("{index} {} {}\n", made.lines.len(), made.kind);
+                table += &format!("{index} {} {} {}\n", made.lines.len(), made.width, made.kind);
                 for line in made.lines {
                     text.extend(line);
                     text.push(b'\n');
                 }
             }
-            Err(kind) => table += &format!("{index} skipped {kind}\n"),
+            Err(kind) => table += &format!("{index} skipped 0 {kind}\n"),
         }
     }
     std::fs::write(script, text).expect("the script can be written");
@@ -112,8 +129,13 @@ fn run() {
             Err(kind) => println!("skipped {kind}"),
         },
         ["batch", seed, first, count, script, kinds] => batch(whole(seed), whole(first), whole(count), script, kinds),
+        ["count", entry, steps] => count(whole(entry) as usize, whole(steps), false),
+        ["count", entry, steps, "remember"] => count(whole(entry) as usize, whole(steps), true),
         _ => {
-            eprintln!("usage: model calls [-n] | classes | c HEXBOOK E1 E2 | host | gen SEED INDEX | batch SEED FIRST COUNT SCRIPT KINDS");
+            eprintln!(
+                "usage: model calls [-n] | classes | c HEXBOOK E1 E2 | host | gen SEED INDEX | batch SEED FIRST COUNT SCRIPT KINDS | \
+                 count ENTRY STEPS [remember]"
+            );
             std::process::exit(2);
         }
     }

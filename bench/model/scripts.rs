@@ -1,15 +1,19 @@
 //! Scripts of calls made at random, one for each book. The model runs each line as it is made, so that a line can be lent just
 //! the nodes that it needs.
 
+use crate::book::{read, Denial};
 use crate::books::any_book;
 use crate::calls::Session;
 use crate::random::Random;
 use crate::register::Stop;
 use crate::roles::Hierarchy;
+use crate::search::Plan;
 use crate::world::{all, has, words_needed, World};
 
 pub struct Script {
     pub kind: String,
+    /// The working entries of the book under closure rows; 0 where it does not open.
+    pub width: usize,
     pub lines: Vec<Vec<u8>>,
 }
 
@@ -23,9 +27,14 @@ pub fn script(seed: u64, index: u64, limit: u64) -> Result<Script, String> {
     let (bytes, kind) = any_book(&mut random);
     let mut maker = Maker { random, session: Session::new(limit), lines: Vec::new() };
     match maker.make(&bytes, &kind) {
-        Ok(()) => Ok(Script { kind, lines: maker.lines }),
+        Ok(()) => Ok(Script { kind, width: width(&bytes).unwrap_or(0), lines: maker.lines }),
         Err(GaveUp) => Err(kind),
     }
+}
+
+fn width(bytes: &[u8]) -> Result<usize, Denial> {
+    let book = read(bytes)?;
+    Ok(Plan::new(&book, &Hierarchy::of_book(&book))?.width())
 }
 
 struct GaveUp;

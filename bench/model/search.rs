@@ -1,5 +1,7 @@
 //! The search for an individual, as docs/search.md defines it, and the world that it finds.
 
+use std::collections::HashSet;
+
 use crate::book::{denial, Book, Concept, Denial, Quantifier};
 use crate::roles::Hierarchy;
 use crate::world::World;
@@ -13,7 +15,7 @@ enum Working {
 }
 
 /// A set of signed entries.
-#[derive(Clone, Copy, PartialEq, Eq, Debug)]
+#[derive(Clone, Copy, PartialEq, Eq, Hash, Debug)]
 pub struct Label {
     pub plus: u64,
     pub minus: u64,
@@ -166,9 +168,14 @@ impl Plan {
 
     /// The search from the seed with *book* and *everywhere* added, in so many nodes: the labels that stand, or none.
     pub fn search(&self, seed: Label, room: usize, meter: &mut Meter) -> Result<Option<Vec<Label>>, Halt> {
+        self.counted(seed, room, meter, None)
+    }
+
+    /// The same search, counted.
+    pub fn counted(&self, seed: Label, room: usize, meter: &mut Meter, tally: Option<&mut Tally>) -> Result<Option<Vec<Label>>, Halt> {
         let w = self.width();
         let root = seed.with(w - 2, true).with(w - 1, true);
-        let mut search = Search { plan: self, room, standing: Vec::new(), meter };
+        let mut search = Search { plan: self, room, standing: Vec::new(), meter, tally };
         Ok(if search.explore(root)? { Some(search.standing) } else { None })
     }
 
@@ -246,11 +253,26 @@ impl Meter {
     }
 }
 
+/// What a search did.
+#[derive(Default, Debug)]
+pub struct Tally {
+    /// How often a node was made for a seed, and how often that failed; and the different seeds of both.
+    pub made: u64,
+    pub failed: u64,
+    pub seeds: HashSet<Label>,
+    pub failed_seeds: HashSet<Label>,
+    /// The labels at which choices ended: expansions, and clashes.
+    pub ends: u64,
+    /// Whether a node for a seed that failed before fails at once. The register does not do this.
+    pub remember: bool,
+}
+
 struct Search<'a> {
     plan: &'a Plan,
     room: usize,
     standing: Vec<Label>,
     meter: &'a mut Meter,
+    tally: Option<&'a mut Tally>,
 }
 
 impl Search<'_> {
@@ -259,13 +281,32 @@ impl Search<'_> {
         if self.standing.len() >= self.room {
             return Err(Halt::Full);
         }
-        self.try_from(seed, self.plan.width())
+        if let Some(tally) = &mut self.tally {
+            if tally.remember && tally.failed_seeds.contains(&seed) {
+                return Ok(false);
+            }
+            tally.made += 1;
+            tally.seeds.insert(seed);
+        }
+        let stands = self.try_from(seed, self.plan.width())?;
+        if let (Some(tally), false) = (&mut self.tally, stands) {
+            tally.failed += 1;
+            tally.failed_seeds.insert(seed);
+        }
+        Ok(stands)
+    }
+
+    fn end(&mut self) {
+        if let Some(tally) = &mut self.tally {
+            tally.ends += 1;
+        }
     }
 
     /// Tries the expansions of a label in which the entries from `above` on have been taken, in order, until one stands.
     fn try_from(&mut self, mut label: Label, above: usize) -> Result<bool, Halt> {
         self.meter.step(1)?;
         if self.plan.clashes(&label) {
+            self.end();
             return Ok(false);
         }
         for i in (0..above).rev() {
@@ -302,9 +343,11 @@ impl Search<'_> {
                 return Ok(false);
             }
             if self.plan.clashes(&label) {
+                self.end();
                 return Ok(false);
             }
         }
+        self.end();
         self.stand(label)
     }
 

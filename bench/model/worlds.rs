@@ -24,7 +24,8 @@ use raw::Raw;
 use roles::Hierarchy;
 use world::{all, has, World};
 
-/// Nodes lent to each call.
+/// Nodes lent to each call. Books so small were never seen to need more, and what a refused call would have answered is not checked; so
+/// the run fails where one is refused.
 const NODES: usize = 4096;
 /// A size of worlds is gone through if there are at most so many of them; every tenth book at random has the larger limit.
 const MOST_WORLDS: u64 = 300_000;
@@ -396,7 +397,8 @@ fn answers(program: &str, script: String) -> String {
     });
     let out = child.wait_with_output().expect("the program ends");
     writer.join().unwrap();
-    String::from_utf8_lossy(&out.stdout).into_owned()
+    let said = String::from_utf8_lossy(&out.stdout).into_owned();
+    if out.status.success() { said } else { format!("{said}{}\n", out.status) }
 }
 
 fn main() {
@@ -475,7 +477,10 @@ fn main() {
     }
     println!("asks answered no with the shown world alone against it: {}", f.no[0]);
     println!("shown worlds that keep the book and separate: {}", f.shown);
-    println!("calls for which {NODES} nodes did not suffice: {}", f.no_room);
-    println!("{} books, {} calls, {} worlds checked, {} wrong", f.books, f.calls, f.worlds, f.wrong);
-    std::process::exit((f.wrong > 0) as i32);
+    println!(
+        "{} books, {} calls, {} worlds checked, {} calls refused for want of room, {} wrong",
+        f.books, f.calls, f.worlds, f.no_room, f.wrong
+    );
+    let checked = f.worlds > 0 && f.shown > 0 && f.yes > 0;
+    std::process::exit(!(checked && f.no_room == 0 && f.wrong == 0) as i32);
 }

@@ -1,4 +1,6 @@
 """The register, by the program `calls` of this repository, in one process for a book that is spoken to line by line."""
+import contextlib
+import re
 import select
 import subprocess
 
@@ -15,13 +17,9 @@ class OverTime(Exception):
 
 
 def program(crate):
-    """The compiled program of a crate; `rt run` makes it."""
-    found = sorted(p for p in (TOP / "crates" / crate / "out").rglob(crate) if p.is_file() and p.stat().st_mode & 0o100)
-    if not found:
-        with open(TOP / "crates" / crate / "stdin") as stdin:
-            subprocess.run(["rt", "run"], cwd=TOP / "crates" / crate, stdin=stdin, stdout=subprocess.DEVNULL, check=True)
-        return program(crate)
-    return str(found[0])
+    """The compiled program of a crate, built anew, which is quick where nothing has changed."""
+    subprocess.run([TOP / "bench" / "build", crate], check=True)
+    return str(TOP / "target" / "programs" / crate)
 
 
 class Session:
@@ -59,15 +57,29 @@ class Session:
                 break
         return answer, nodes
 
+    def end(self):
+        """Nothing may be said after the last answer, and the status has to be 0."""
+        self.process.stdin.close()
+        more = self.rest + self.process.stdout.read()
+        if more or self.process.wait(60):
+            raise RuntimeError(f"calls ended with status {self.process.returncode} and {more!r}")
+
     def close(self):
         self.process.kill()
-        self.process.communicate()
+        self.process.wait()
+        with contextlib.suppress(OSError):
+            self.process.stdin.close()
+        self.process.stdout.close()
+
+
+# The refusals that may come: 14, the 25th class; 15, no room; 17, a world of more than 64 individuals.
+MAY_COME = {"file": (14, 15), "ask": (15,), "show": (15, 17)}
 
 
 class Register:
     """All answers for a book: `classes[i]` is the class of entry i or None where it was refused; `yes[a][b]` is whether class a
     is within class b; `shown[(a, b)]` is the line of a world for "a not b", where the answer was no. Where the time was over,
-    `over` is the call that it ended in, and what was not answered is None."""
+    `over` is the call that it ended in, and what was not answered is None. An answer that cannot come there is an error."""
 
     def __init__(self, command, book, limit):
         self.session = Session(command, book, limit)
@@ -77,41 +89,46 @@ class Register:
         self.shown = {}
         try:
             opened = self.session.call("open closed")
-            if opened.startswith("denied"):
-                raise RuntimeError(opened)
+            if not re.fullmatch(r"open \d+", opened):
+                raise RuntimeError(f"open: {opened}")
             self.file(len(book.entries))
             self.ask()
+            self.session.end()
         except OverTime as over:
             self.over = str(over)
         finally:
             self.session.close()
 
-    def roomy_call(self, line, rest=""):
+    def call(self, line, wanted, rest=""):
+        """The match of an answer of the form that is wanted, or None where the call was refused."""
         answer, nodes = self.session.roomy(line, rest)
         self.roomy += nodes > NODES[0]
-        if answer.startswith("denied"):
-            number = int(answer.split()[1])
+        found, refusal = re.fullmatch(wanted, answer), re.fullmatch(r"denied (\d+) \d+ register", answer)
+        if refusal and int(refusal[1]) in MAY_COME[line.split()[0]]:
+            number = int(refusal[1])
             self.refused[number] = self.refused.get(number, 0) + 1
-        return answer
+        elif not found:
+            raise RuntimeError(f"{line}: {answer}")
+        return found
 
     def file(self, count):
         for i in range(count):
-            answer = self.roomy_call(f"file {i}")
-            if answer.startswith("class "):
-                self.classes[i] = int(answer.split()[1])
+            found = self.call(f"file {i}", r"class (\d+)")
+            if found:
+                self.classes[i] = int(found[1])
                 self.stands.setdefault(self.classes[i], i)
 
     def ask(self):
         given = sorted({0, *self.stands})
         for a in given:
             for b in given:
-                answer = self.roomy_call(f"ask {a} {b}")
-                if answer in ("yes", "no"):
-                    self.yes[a][b] = answer == "yes"
-                if answer == "no":
-                    shown = self.roomy_call(f"show {a} {b}", f" {WORDS}")
-                    if shown.startswith("shown "):
-                        self.shown[a, b] = shown
+                found = self.call(f"ask {a} {b}", "yes|no")
+                if found:
+                    self.yes[a][b] = found[0] == "yes"
+                if self.yes[a][b] is False:
+                    shown = self.call(f"show {a} {b}", "shown .*", f" {WORDS}")
+                    if shown:
+                        self.shown[a, b] = shown[0]
 
     def within(self, i, j):
         """Is entry i within entry j? None where the register did not say."""

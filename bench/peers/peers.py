@@ -6,8 +6,10 @@ bottom and top class, and "none r a" is "not some r a".
 """
 import os
 import re
+import shutil
 import signal
 import subprocess
+import sys
 import tempfile
 import time
 
@@ -17,6 +19,13 @@ FACT = os.environ.get("FACT", "FaCT++")
 KONCLUDE = os.environ.get("KONCLUDE", "Konclude")
 WORKERS = os.environ.get("KONCLUDE_WORKERS", "2")
 PREFIX = "http://book#"
+
+
+def installed():
+    """Ends where a peer is not installed."""
+    for command, package in ((FACT, "fact++"), (KONCLUDE, "konclude")):
+        if shutil.which(command) is None:
+            sys.exit(f"{command} is wanted (Debian: {package})")
 
 
 class Failed(Exception):
@@ -130,26 +139,32 @@ class Answer:
         return j in self.up[i]
 
 
+def reached(edges, start):
+    """The nodes that edges lead to from one node, itself included; they may go in circles."""
+    found, ahead = {start}, [start]
+    while ahead:
+        more = set(edges[ahead.pop()]) - found
+        found |= more
+        ahead.extend(more)
+    return found
+
+
 def ordered(count, nodes, edges, top, bottom):
-    """The answer from the nodes of a taxonomy (a list of sets of class names) and its edges (node to upper node)."""
-    up = [set(edges[k]) for k in range(len(nodes))]
-    done = {}
-
-    def closed(k):
-        if k not in done:
-            done[k] = {k}.union(*(closed(u) for u in up[k]))
-        return done[k]
-
+    """The answer from the nodes of a taxonomy (a list of sets of class names) and its edges (node to upper node). The classes of
+    a circle are within each other; so is the top class within what is above it, and all within all that is below the bottom class."""
     place = {name: k for k, names in enumerate(nodes) for name in names}
     lost = [i for i in range(count) if f"E{i}" not in place]
     if lost:
         raise Failed("missing", f"entries {lost} are not in the answer")
-    upper = [e for e in range(count) if place[f"E{e}"] == top]
-    above = []
+    up = [reached(edges, k) for k in range(len(nodes))]
+    everywhere = set() if top is None else up[top]
+    above, empty = [], set()
     for i in range(count):
-        reach = closed(place[f"E{i}"])
-        above.append({j for j in range(count) if place[f"E{j}"] in reach} | set(upper))
-    return Answer(count, above, {i for i in range(count) if place[f"E{i}"] == bottom})
+        reach = up[place[f"E{i}"]]
+        above.append({j for j in range(count) if place[f"E{j}"] in reach | everywhere})
+        if bottom in reach:
+            empty.add(i)
+    return Answer(count, above, empty)
 
 
 def ask_fact(book, folder, limit):
