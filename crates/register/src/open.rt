@@ -4,6 +4,7 @@ ghost use Rattle.denial.specs.Denials.{answer, denial_report};
 ghost use Rattle.meaning.specs.Orders.{role_box};
 ghost use Rattle.book.specs.Sections.{says};
 ghost use Rattle.book.specs.Views.{view};
+ghost use Rattle.roles.specs.Hierarchies.{roles_of};
 ghost use Rattle.tableau.specs.Promises.{Opens};
 ghost use Rattle.plan.specs.Building.{verdict};
 ghost use Rattle.runs.specs.Setups.{setup};
@@ -16,6 +17,7 @@ use book::Book;
 use denial::Denial;
 use meaning::{Hierarchy, Order};
 use plan::Plan;
+use roles::rows::Rows;
 
 impl Register {
     // A register on the book under the hierarchy, with class 0 alone. Refused with 12 where the hierarchy's count is not the
@@ -37,5 +39,16 @@ impl Register {
             entries,
             classes,
         })
+    }
+
+    // The same under the book's own hierarchy.
+    pub fn open_own(book: &Book) -> Result<Register, Denial>
+        ensures answer { answer opening denial_report result ≡ verdict (roles_of (view book.now)) (says (view book.now)) }
+        ensures setup { IfOk result (λ g. setup_of g ≡ setup (roles_of (view book.now)) (says (view book.now))) }
+        ensures fresh { IfOk result (λ g. classes_of g ≡ []) }
+        ensures opens { OnOk result (Opens (roles_of (view book.now)) (says (view book.now))) }
+        ensures right { IfOk result (λ g. (run : List Event) → Run (setup_of g) (classes_of g) run → Right (roles_of (view book.now)) (says (view book.now)) run) }
+    {
+        Register::open(book, &Rows::closed(book))
     }
 }
