@@ -1,23 +1,18 @@
 // The calls of a register that lead to the relation of two entries.
-ghost use Rattle.std.specs.Prelude.{◌≡◌, [], length, replicate, IfOk};
+ghost use Rattle.std.specs.Prelude.{◌≡◌, length, replicate, IfOk};
 ghost use Rattle.denial.specs.Denials.{answer, granted, denial_report};
 ghost use Rattle.book.specs.Sections.{Sections, says};
 ghost use Rattle.book.specs.Reading.{reading};
-ghost use Rattle.book.specs.Views.{view};
 ghost use Rattle.roles.specs.Hierarchies.{roles_of};
-ghost use Rattle.plan.specs.Building.{verdict};
-ghost use Rattle.runs.specs.Setups.{setup};
 ghost use Rattle.search.specs.Nodes.{blank};
-ghost use Rattle.register.specs.Registers.{setup_of, classes_of, opening};
+ghost use Rattle.register.specs.Registers.{setup_of, classes_of};
 ghost use Rattle.host.specs.Relations.{compared_by, filed_by, relating};
 ghost use Rattle.host.specs.Meanings.{Means};
 
 use crate::Relation;
-use book::Book;
 use book::read::read;
 use denial::Denial;
 use register::Register;
-use roles::rows::Rows;
 use search::{Node, Workspace};
 
 // The relation of two entries of the book in the bytes, or the first refusal; and what the relation means. The searches have
@@ -36,17 +31,8 @@ pub(crate) fn relation(
 {
     let workspace = Workspace(nodes);
     let book = read(bytes)?;
-    let mut register = opened(&book)?;
+    let mut register = Register::open_own(&book)?;
     filed(&mut register, first, second, workspace.0)
-}
-
-// A register on the book under its own hierarchy, with class 0 alone.
-fn opened(book: &Book) -> Result<Register, Denial>
-    ensures answer { answer opening denial_report result ≡ verdict (roles_of (view book.now)) (says (view book.now)) }
-    ensures setup { IfOk result (λ g. setup_of g ≡ setup (roles_of (view book.now)) (says (view book.now))) }
-    ensures fresh { IfOk result (λ g. classes_of g ≡ []) }
-{
-    Register::open(book, &Rows::closed(book))
 }
 
 // Files the two entries, the first one first, and compares their classes.

@@ -24,7 +24,7 @@ pub use relation::Relation;
 const REFUSED: u32 = 100;
 
 // How many nodes the searches of a host's call have.
-const NODES: usize = 200;
+pub const NODES: usize = 200;
 
 // How the two entries of the book stand to each other in all finite worlds that keep it: 0 where no such world holds them
 // apart; 1 where the first is strictly below the second, 2 where it is the other way round, 3 where neither is below the

@@ -10,7 +10,7 @@ ghost use Rattle.roles.specs.Hierarchies.{roles_of};
 ghost use Rattle.host.specs.Relations.{relation_of};
 ghost use Rattle.host.specs.Meanings.{NumberMeans};
 
-use host::register_relation_in;
+use host::{NODES, register_relation_in};
 use search::Node;
 
 // How the two entries of the book stand to each other in all finite worlds that keep it: 0 where no such world holds them
@@ -21,6 +21,6 @@ pub extern "C" fn register_relation(book: &[u8], first: usize, second: usize) ->
     ensures value { result ≡ relation_of book.now first second }
     ensures meaning { (s : Sections) → reading book.now ≡ granted s → NumberMeans (roles_of s) (says s) first second result }
 {
-    let mut nodes = [Node::BLANK; 200];
+    let mut nodes = [Node::BLANK; NODES];
     register_relation_in(book, first, second, &mut nodes)
 }

@@ -10,16 +10,15 @@ ghost use Rattle.roles.specs.Hierarchies.{roles_of};
 ghost use Rattle.plan.specs.Building.{verdict};
 ghost use Rattle.lines.specs.Listings.{line_of_book};
 ghost use Rattle.runs.specs.Steps.{Call, step};
-ghost use Rattle.runs.specs.Runs.{history, Right};
+ghost use Rattle.runs.specs.Runs.{history};
 ghost use Rattle.register.specs.Registers.{setup_of, classes_of};
-ghost use Rattle.listing.specs.Listings.{lent_nodes, filings, filed_line, lines_of, filing_run, opened_run, listed, listing_of};
+ghost use Rattle.listing.specs.Listings.{lent_nodes, filings, filed_line, lines_of, opened_run, listed, listing_of, RightLines};
 
 use book::Book;
 use book::read::read;
 use denial::Report;
 use lines::{book_line, class_line, denied_line};
 use register::Register;
-use roles::rows::Rows;
 use search::Node;
 use std::alloc::{AllocError, Global};
 
@@ -28,11 +27,11 @@ const NODES: usize = 64;
 
 // The listing of the book in the bytes: for each entry, upward from 0, a line with its class number, or with the number of
 // the refusal of its filing; for a book that is refused, in reading or in opening, the line of that refusal alone. Where a
-// register is opened, the run of which these are the lines is right.
+// register is opened, these are the lines of a run that is right.
 #[tactic(auto, unfolding(crate::specs::Listings::listing_of))]
 pub fn listing(heap: Global, bytes: &[u8]) -> Result<Vec<u8>, AllocError>
     ensures lines { IfOk result (λ v. v.items ≡ listing_of bytes.now) }
-    ensures right { (s : Sections) → reading bytes.now ≡ granted s → verdict (roles_of s) (says s) ≡ granted tt → Right (roles_of s) (says s) (filing_run s) }
+    ensures right { IfOk result (λ v. (s : Sections) → reading bytes.now ≡ granted s → verdict (roles_of s) (says s) ≡ granted tt → RightLines (roles_of s) (says s) v.items) }
 {
     match read(bytes) {
         Ok(book) => book_listing(heap, &book),
@@ -52,9 +51,9 @@ fn refused(heap: Global, report: Report) -> Result<Vec<u8>, AllocError>
 // The listing of a book that was read.
 fn book_listing(heap: Global, book: &Book) -> Result<Vec<u8>, AllocError>
     ensures lines { IfOk result (λ v. v.items ≡ listed (opened_run (view book.now))) }
-    ensures right { verdict (roles_of (view book.now)) (says (view book.now)) ≡ granted tt → Right (roles_of (view book.now)) (says (view book.now)) (filing_run (view book.now)) }
+    ensures right { IfOk result (λ v. verdict (roles_of (view book.now)) (says (view book.now)) ≡ granted tt → RightLines (roles_of (view book.now)) (says (view book.now)) v.items) }
 {
-    match Register::open(book, &Rows::closed(book)) {
+    match Register::open_own(book) {
         Ok(register) => filed_lines(heap, register, book.entry_count()),
         Err(denial) => refused(heap, denial.report()),
     }

@@ -1,7 +1,7 @@
 -- What is built is a plan of the book under the hierarchy.
-use Rattle.std.proofs.Common.{◌≡◌, ℕ, ◌+◌, ◌<◌, ◌≤◌, Bool, true, false, cond, ◌&&◌, ltb, List, take, sym, refl, ap, ◌∙◌, subst, ⊎_elim, arith, length-take}
+use Rattle.std.proofs.Common.{◌≡◌, ℕ, ◌+◌, ◌<◌, ◌≤◌, Bool, true, false, cond, ◌&&◌, eqb, ltb, leb, List, take, sym, refl, ap, ◌∙◌, subst, ⊎_elim, arith, length-take}
 use Rattle.std.proofs.lemmas.List.{get_or_past, get_or-take}
-use Rattle.std.proofs.lemmas.Bool.{cases_lt, and_parts, and_from, lt-ltb, ltb-true, le-leb}
+use Rattle.std.proofs.lemmas.Bool.{cases_lt, and_parts, and_from, cond-true, lt-ltb, ltb-true, le-leb, leb-true, eqb-true, eq-eqb}
 use Rattle.std.proofs.lemmas.Bool.Decides.{nat_tests}
 use Rattle.denial.specs.Denials.{Answer, granted, denied}
 use Rattle.denial.specs.declared.Report.{Report}
@@ -22,7 +22,7 @@ use Rattle.tableau.proofs.Tabling.{lower, tabled}
 use Rattle.plan.specs.declared.Plan.{Plan}
 use Rattle.plan.specs.Plans.{listed_entry, listed_role, is_lower, lowered}
 use Rattle.plan.specs.Meanings.{table_in, box_in}
-use Rattle.plan.specs.Building.{Planned, verdict}
+use Rattle.plan.specs.Building.{Planned, verdict, VerdictOpens}
 
 lower_test : (i : ℕ) (e : Entry) → LowerEntry i e → is_lower i e ≡ true
 lower_test i (Plain Nothing) h = refl
@@ -108,3 +108,29 @@ planned_table H K p h = λ i. record { width = h.width_is i; plain = h.plain_is 
 
 pub planned_box : (H : RoleBox) (K : Book) (p : Plan) → Planned H K p → box_in p ≡ with_universal H
 planned_box H K p h = λ i. record { count = h.count_is i; below = λ r s. h.row_is r s i; transitive = λ r. h.marks_are r i }
+
+-- two tests in a row that let all pass were both passed
+passed : (b c : Bool) (r t : Report) → ◌≡◌ {A = Answer (Unit {0})} (cond b (cond c (granted tt) (denied r)) (denied t)) (granted tt) → (b ≡ true) × (c ≡ true)
+passed true true r t e = (refl, refl)
+passed true false r t e = absurd (let z : ◌≡◌ {A = ℕ} 0 1 = cc in omega arith)
+passed false c r t e = absurd (let z : ◌≡◌ {A = ℕ} 0 1 = cc in omega arith)
+
+-- the verdict's two tests are the hypotheses that a lawful hierarchy and a sound book leave open
+pub verdict_opens : VerdictOpens
+verdict_opens H K ordered sound = (to, from)
+  where
+    to : verdict H K ≡ granted tt → Opens H K
+    to e =
+        let p = passed (eqb H.count K.roles && ltb H.count 64) (leb (width_of H K) 64) _ _ e in
+        let q = and_parts (eqb H.count K.roles) (ltb H.count 64) p.0 in record {
+          ordered = ordered;
+          roles = eqb-true H.count K.roles q.0;
+          few = ltb-true H.count 64 q.1;
+          sound = sound;
+          narrow = leb-true (width_of H K) 64 p.1;
+        }
+
+    from : Opens H K → verdict H K ≡ granted tt
+    from P =
+        cond-true _ _ _ (and_from (eqb H.count K.roles) (ltb H.count 64) (eq-eqb H.count K.roles P.roles) (lt-ltb H.count 64 P.few))
+        ∙ cond-true _ _ _ (le-leb (width_of H K) 64 P.narrow)

@@ -1,11 +1,11 @@
 // The plan of a book under a hierarchy.
-ghost use Rattle.std.specs.Prelude.{◌≡◌, IfOk};
+ghost use Rattle.std.specs.Prelude.{◌≡◌, IfOk, OnOk};
 ghost use Rattle.denial.specs.Denials.{answer, denial_report};
 ghost use Rattle.meaning.specs.Orders.{role_box};
 ghost use Rattle.book.specs.Sections.{says};
 ghost use Rattle.book.specs.Views.{view};
 ghost use Rattle.tableau.specs.Promises.{Opens};
-ghost use Rattle.plan.specs.Building.{Planned, Fitting, verdict, granting, box_of};
+ghost use Rattle.plan.specs.Building.{Planned, verdict, granting, VerdictOpens, box_of};
 
 use crate::Plan;
 use crate::forced::Forced;
@@ -24,7 +24,7 @@ impl Plan {
     pub fn new<H: Hierarchy>(book: &Book, hierarchy: &H) -> Result<Plan, Denial>
         ensures answer { answer granting denial_report result ≡ verdict (role_box (H.Order.size hierarchy.now) (H.Order.under hierarchy.now) (H.Hierarchy.passing hierarchy.now)) (says (view book.now)) }
         ensures planned { IfOk result (Planned (role_box (H.Order.size hierarchy.now) (H.Order.under hierarchy.now) (H.Hierarchy.passing hierarchy.now)) (says (view book.now))) }
-        ensures fitting { IfOk result (Fitting (role_box (H.Order.size hierarchy.now) (H.Order.under hierarchy.now) (H.Hierarchy.passing hierarchy.now)) (says (view book.now))) }
+        ensures opens { OnOk result (Opens (role_box (H.Order.size hierarchy.now) (H.Order.under hierarchy.now) (H.Hierarchy.passing hierarchy.now)) (says (view book.now))) }
     {
         let base = Rows::copied(hierarchy);
         over(book, &base)
@@ -35,7 +35,7 @@ impl Plan {
 fn over(book: &Book, base: &Rows) -> Result<Plan, Denial>
     ensures answer { answer granting denial_report result ≡ verdict (box_of base.now) (says (view book.now)) }
     ensures planned { IfOk result (Planned (box_of base.now) (says (view book.now))) }
-    ensures fitting { IfOk result (Fitting (box_of base.now) (says (view book.now))) }
+    ensures opens { OnOk result (Opens (box_of base.now) (says (view book.now))) }
 {
     let count = base.count();
     if count != book.role_count() {
@@ -81,3 +81,8 @@ fn assembled(draft: &Draft, universal: &Universal<Rows>) -> Plan
         forced: Forced::of(&listed),
     }
 }
+
+// Of a lawful hierarchy and a sound book, a plan is granted exactly where what the theorems about the search ask for holds.
+pub fn verdict_opens()
+    ensures { VerdictOpens }
+{}

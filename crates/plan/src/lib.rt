@@ -19,6 +19,7 @@ mod propagated;
 mod sets;
 mod working;
 
+pub use build::verdict_opens;
 pub use forced::Forced;
 pub use sets::{obliges, sign_of};
 

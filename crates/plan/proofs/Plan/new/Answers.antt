@@ -1,9 +1,10 @@
-use Rattle.std.proofs.Common.{IfOk, subst}
+use Rattle.std.proofs.Common.{IfOk, OnOk, subst}
 use Rattle.book.specs.Sections.{says}
 use Rattle.book.specs.Views.{view}
 use Rattle.meaning.specs.Orders.{RoleBox, role_box}
 use Rattle.roles.proofs.Boxes.{rows_same}
-use Rattle.plan.specs.Building.{Planned, Fitting, box_of}
+use Rattle.tableau.specs.Promises.{Opens}
+use Rattle.plan.specs.Building.{Planned, box_of}
 use Rattle.plan.proofs.Building.{answer_like}
 use Rattle.plan.proofs.Plan.new.Goals as goal
 
@@ -17,5 +18,5 @@ returns g c =
     record {
       answer = answer_like (box_of b.result) H K _ same c.over.ensures.answer;
       planned = subst (λ (G : RoleBox). IfOk c.over.result (Planned G K)) same c.over.ensures.planned;
-      fitting = subst (λ (G : RoleBox). IfOk c.over.result (Fitting G K)) same c.over.ensures.fitting;
+      opens = subst (λ (G : RoleBox). OnOk c.over.result (Opens G K)) same c.over.ensures.opens;
     }

@@ -25,5 +25,5 @@ opens c =
 pub assembled-requires-clause-opens : goal.assembled-requires-clause-opens
 assembled-requires-clause-opens c = rw c.in_ok-draft.ensures.book (rw c.in_ok-draft.ensures.base (opens (goal.at.assembled-requires-clause-opens c).In_ok-draft))
 
-pub returns-clause-fitting : goal.returns-clause-fitting
-returns-clause-fitting c = opens (goal.at.returns-clause-fitting c).In_ok-draft
+pub returns-clause-opens : goal.returns-clause-opens
+returns-clause-opens c = opens (goal.at.returns-clause-opens c).In_ok-draft
