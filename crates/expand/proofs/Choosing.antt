@@ -1,17 +1,16 @@
 -- The laws of choice words: from 0 on there are all expansions, and from the weight on there is none.
-use Rattle.std.proofs.Common.{◌≡◌, ℕ, zero, suc, ◌+◌, ◌-◌, ◌^◌, ◌≤◌, Bool, true, false, cond, not, ◌&&◌, ◌||◌, eqb, List, [], ◌∷◌, ◌++◌, length, refl, ap, ◌∙◌, ap₂, ⊎_elim, pow-suc, arith, length-append, pow_mono}
+use Rattle.std.proofs.Common.{◌≡◌, ℕ, zero, suc, ◌+◌, ◌-◌, ◌^◌, ◌≤◌, Bool, true, false, cond, ◌&&◌, ◌||◌, eqb, List, [], ◌∷◌, ◌++◌, length, refl, ap, ◌∙◌, ap₂, ⊎_elim, pow-suc, arith, length-append, pow_mono}
 use Rattle.std.proofs.lemmas.Bool.{and_parts, and_from, or_cases, or_left, or_right, ne_eqb, cond-true, cond-false, cond_both}
 use Rattle.meaning.specs.declared.Concept.TheVariants.{Nothing, Everything, Name, Not, And, Or, Restriction}
 use Rattle.meaning.proofs.Tests.{any_from, any_some}
 use Rattle.tableau.specs.declared.Label.{Label}
 use Rattle.tableau.specs.declared.Entry.{Entry}
 use Rattle.tableau.specs.declared.Entry.TheVariants.{Plain, Inclusion, Inclusions}
-use Rattle.tableau.specs.Labels.{in_label, put}
+use Rattle.tableau.specs.Labels.{in_label}
 use Rattle.tableau.specs.Entries.{Table, LowerEntry}
-use Rattle.tableau.specs.Expansions.{Ways, One, Two, absurd_entry, clash_at, clash, one_of, grown, taken, branch, expand, expansions}
+use Rattle.tableau.specs.Expansions.{Ways, One, Two, absurd_entry, clash_at, clash, grown, taken, branch, expand, expansions}
 use Rattle.tableau.specs.Saturation.{Holds}
-use Rattle.tableau.proofs.Folding.{fold_keeps}
-use Rattle.tableau.proofs.Labelling.{put_keeps}
+use Rattle.tableau.proofs.Growing.{EachWay, Took, each_weaker, taken_took}
 use Rattle.expand.specs.Choices.{weight, fork, from}
 
 -- Weights.
@@ -149,61 +148,23 @@ clash_grows B l m more e =
         (kept false i (absurd_entry a false) p))
         (or_cases (in_label l true i && in_label l false i || in_label l true i && absurd_entry a true) (in_label l false i && absurd_entry a false) h)
 
--- a fact of each way
-abbrev Each : (Label → Type 0) → Ways → Type 0
-Each P (One l) = P l
-Each P (Two l m) = P l × P m
-
 -- m holds what l holds
 abbrev Over : Label → Label → Type 0
 Over l m = Holds m l
 
-over_self : (l : Label) → Over l l
-over_self l s i h = h
+-- every way of the entry that is taken holds what the label held
+taken_over : (e : Entry) (k : ℕ) (l : Label) → LowerEntry k e → EachWay (Over l) (taken e k l)
+taken_over e k l low = each_weaker (Took k e l) (Over l) (λ m t. t.grew.holds) (taken e k l) (taken_took k e l low)
 
-over_put : (l m : Label) (s : Bool) (i : ℕ) → Over l m → Over l (put s i m)
-over_put l m s i h t j g = put_keeps s i m t j (h t j g)
-
-over_one : (l : Label) (s : Bool) (i : ℕ) → Over l (put s i l)
-over_one l s i = over_put l l s i (over_self l)
-
-over_two : (l : Label) (s : Bool) (a b : ℕ) → Over l (put s a (put s b l))
-over_two l s a b = over_put l (put s b l) s a (over_one l s b)
-
-over_either : (b : Bool) (x y l : Label) → Over l x → Over l y → Each (Over l) (one_of b x y l)
-over_either true x y l p q = over_self l
-over_either false x y l p q = (p, q)
-
-grown_over : (e : Entry) (s : Bool) (l : Label) → Each (Over l) (grown e s l)
-grown_over (Plain Nothing) s l = over_self l
-grown_over (Plain Everything) s l = over_self l
-grown_over (Plain (Name n)) s l = over_self l
-grown_over (Plain (Not a)) s l = over_one l (not s) a
-grown_over (Plain (And a b)) true l = over_two l true a b
-grown_over (Plain (And a b)) false l = over_either (in_label l false a || in_label l false b) (put false a l) (put false b l) l (over_one l false a) (over_one l false b)
-grown_over (Plain (Or a b)) true l = over_either (in_label l true a || in_label l true b) (put true a l) (put true b l) l (over_one l true a) (over_one l true b)
-grown_over (Plain (Or a b)) false l = over_two l false a b
-grown_over (Plain (Restriction q r a)) s l = over_self l
-grown_over (Inclusion c d) true l = over_either (in_label l false c || in_label l true d) (put false c l) (put true d l) l (over_one l false c) (over_one l true d)
-grown_over (Inclusion c d) false l = over_self l
-grown_over (Inclusions lo n) true l = fold_keeps (Over l) n (λ k. put true (lo + k)) (λ k m p h. over_put l m true (lo + k) h) l (over_self l)
-grown_over (Inclusions lo n) false l = over_self l
-
-taken_over : (e : Entry) (k : ℕ) (l : Label) → Each (Over l) (taken e k l)
-unfolding taken
-taken_over e k l = cond_both (in_label l true k) (grown e true l) (cond (in_label l false k) (grown e false l) (One l)) (Each (Over l))
-    (λ h. grown_over e true l)
-    (λ h. cond_both (in_label l false k) (grown e false l) (One l) (Each (Over l)) (λ g. grown_over e false l) (λ g. over_self l))
-
-fork_over : (f g : Label → List Label) (l : Label) → ((m : Label) → Over l m → f m ≡ []) → ((m : Label) → Over l m → g m ≡ []) → (w : Ways) → Each (Over l) w → fork f g w ≡ []
+fork_over : (f g : Label → List Label) (l : Label) → ((m : Label) → Over l m → f m ≡ []) → ((m : Label) → Over l m → g m ≡ []) → (w : Ways) → EachWay (Over l) w → fork f g w ≡ []
 unfolding fork
 fork_over f g l p q (One m) h = p m h
 fork_over f g l p q (Two a b) h = ap₂ (λ xs ys. xs ++ ys) (p a h.0) (q b h.1)
 
-pub from_clash : (B : Table) (k : ℕ) (l : Label) (c : ℕ) → clash B l ≡ true → from B k l c ≡ []
+pub from_clash : (B : Table) → ((i : ℕ) → LowerEntry i (B.entry i)) → (k : ℕ) (l : Label) (c : ℕ) → clash B l ≡ true → from B k l c ≡ []
 unfolding from expand
-from_clash B zero l c e = cond_both (eqb c 0) (cond (clash B l) [] (l ∷ [])) [] (λ xs. xs ≡ []) (λ h. cond-true (clash B l) [] (l ∷ []) e) (λ h. refl)
-from_clash B (suc k) l c e =
+from_clash B low zero l c e = cond_both (eqb c 0) (cond (clash B l) [] (l ∷ [])) [] (λ xs. xs ≡ []) (λ h. cond-true (clash B l) [] (l ∷ []) e) (λ h. refl)
+from_clash B low (suc k) l c e =
     fork_over (λ m. from B k m c) (λ m. from B k m (c - weight k)) l
-    (λ m h. from_clash B k m c (clash_grows B l m h e)) (λ m h. from_clash B k m (c - weight k) (clash_grows B l m h e))
-    (taken (B.entry k) k l) (taken_over (B.entry k) k l)
+    (λ m h. from_clash B low k m c (clash_grows B l m h e)) (λ m h. from_clash B low k m (c - weight k) (clash_grows B l m h e))
+    (taken (B.entry k) k l) (taken_over (B.entry k) k l (low k))

@@ -9,7 +9,7 @@ use Rattle.meaning.specs.declared.Concept.TheVariants.{Nothing, Everything, Name
 use Rattle.tableau.specs.declared.Entry.{Entry}
 use Rattle.tableau.specs.declared.Entry.TheVariants.{Plain, Inclusion, Inclusions}
 use Rattle.tableau.specs.Labels.{in_label, common}
-use Rattle.tableau.specs.Entries.{Table}
+use Rattle.tableau.specs.Entries.{Table, LowerEntry}
 use Rattle.tableau.specs.Expansions.{One, clash, grown, taken}
 use Rattle.plan.specs.declared.Plan.{Plan}
 use Rattle.plan.specs.Plans.{listed_entry}
@@ -108,8 +108,8 @@ module _ (B : Table) (k : ℕ) (l : Label) where
       same = λ c. so.same c ∙ skip B at i (left - i) left (omega arith) free c;
     }
 
-    pub along_dead : clash B at ≡ true → (c : ℕ) → from B k l c ≡ []
-    along_dead e c = so.same c ∙ from_clash B left at c e
+    pub along_dead : ((i : ℕ) → LowerEntry i (B.entry i)) → clash B at ≡ true → (c : ℕ) → from B k l c ≡ []
+    along_dead low e c = so.same c ∙ from_clash B low left at c e
 
     pub along_first : (c : ℕ) (p : Label × ℕ) → FirstFrom B left at c p → FirstFrom B k l c p
     along_first c p h = (

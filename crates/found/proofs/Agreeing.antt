@@ -12,42 +12,24 @@ use Rattle.meaning.specs.Chains.{reach}
 use Rattle.meaning.proofs.Tests.{any_some, any_none}
 use Rattle.tableau.specs.Labels.{empty, in_label}
 use Rattle.tableau.specs.Found.{joined, borne}
+use Rattle.tableau.proofs.Sets.{some_member}
 use Rattle.plan.specs.declared.Plan.{Plan}
 use Rattle.plan.specs.Meanings.{table_in, box_in}
 use Rattle.search.specs.declared.Node.{Node}
 use Rattle.search.specs.Nodes.{blank, label_of, labels}
-use Rattle.successor.proofs.Labels.{less_than_power}
 use Rattle.sheet.proofs.Sets.{has_set}
 use Rattle.found.specs.Founds.{found_in, is_name_in, edge_in, joined_to, kept_world}
 use Rattle.found.proofs.Naming.{NamedTo}
 use Rattle.found.proofs.Spreading.{TableTo}
 
--- a number with no member is 0
-none_zero : (w : ℕ) → ((k : ℕ) → has w k ≡ false) → w ≡ 0
-none_zero w none = same_set w w 0 (less_than_power w) (omega (arith, less_than_power w)) (λ k _. none k ∙ sym (has_none k))
-
 -- two sets meet, the second of them the numbers below n of which p holds
 meet_is : (a b n : ℕ) (p : ℕ → Bool) → ((j : ℕ) → has b j ≡ (ltb j n && p j)) → not (eqb (bit_and a b) 0) ≡ any n (λ i. has a i && p i)
-meet_is a b n p is = ⊎_elim
-    (λ e.
-    let s = any_some n (λ i. has a i && p i) e in
-    let parts = and_parts (has a s.0) (p s.0) s.2 in
-    let in_b = is s.0 ∙ and_from (ltb s.0 n) (p s.0) (lt-ltb s.0 n s.1) parts.1 in
-    let in_both = has_and a b s.0 ∙ and_from (has a s.0) (has b s.0) parts.0 in_b in
-    ⊎_elim
-    (λ z. absurd (both_ways (has (bit_and a b) s.0) (ap (λ w. has w s.0) (eqb-true (bit_and a b) 0 z) ∙ has_none s.0) in_both))
-    (λ z. ap not z ∙ sym e)
-    (cases_Bool (eqb (bit_and a b) 0)))
-    (λ e.
-    let z = none_zero (bit_and a b) (λ k. has_and a b k ∙ ap (λ t. has a k && t) (is k) ∙ apart k (any_none n (λ i. has a i && p i) e k)) in
-    ap not (eq-eqb (bit_and a b) 0 z) ∙ sym e)
-    (cases_Bool (any n (λ i. has a i && p i)))
+meet_is a b n p is = some_member (bit_and a b) n (λ i. has a i && p i) (λ j. has_and a b j ∙ ap (λ t. has a j && t) (is j) ∙ turned (has a j) (ltb j n) (p j))
   where
-    apart : (k : ℕ) → (k < n → (has a k && p k) ≡ false) → (has a k && (ltb k n && p k)) ≡ false
-    apart k f = ⊎_elim
-        (λ l. ap (λ t. has a k && (t && p k)) l ∙ f (ltb-true k n l))
-        (λ g. ap (λ t. has a k && (t && p k)) g ∙ and_right (has a k) false refl)
-        (cases_Bool (ltb k n))
+    turned : (x y z : Bool) → (x && (y && z)) ≡ (y && (x && z))
+    turned true y z = refl
+    turned false true z = refl
+    turned false false z = refl
 
 -- one number's own test taken out of the others
 any_own : (n t : ℕ) (E f g : ℕ → Bool) → ((q : ℕ) → f q ≡ g q) → any n (λ q. eqb t q && E q || f q) ≡ (ltb t n && E t || any n g)

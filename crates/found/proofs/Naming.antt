@@ -5,8 +5,8 @@ use Rattle.std.proofs.lemmas.Bool.Decides.{nat_tests}
 use Rattle.words.specs.Sets.{has}
 use Rattle.words.proofs.Words.{has_none}
 use Rattle.plan.specs.declared.Plan.{Plan}
+use Rattle.sheet.proofs.Extending.{zeros}
 use Rattle.found.specs.Founds.{is_name_in}
-use Rattle.found.proofs.Unions.{zero_row}
 
 -- the sets of the entries below n
 abbrev pub NamedTo : Plan → ℕ → List ℕ → Type 0
@@ -14,7 +14,7 @@ NamedTo p n sets = (k j : ℕ) → k < 64 → has (get_or sets k 0) j ≡ (ltb j
 
 -- no entry, then one more
 pub named_none : (p : Plan) (n : ℕ) → NamedTo p 0 (replicate n 0)
-named_none p n k j l = ap (λ w. has w j) (zero_row n k) ∙ has_none j ∙ grind (arith, nat_tests)
+named_none p n k j l = ap (λ w. has w j) (zeros n k) ∙ has_none j ∙ grind (arith, nat_tests)
 
 -- the numbers below i of which f holds, and i if it holds of i
 one_more : (f : ℕ → Bool) (i j : ℕ) → (f i && eqb j i || (ltb j i && f j)) ≡ (ltb j (i + 1) && f j)

@@ -8,15 +8,16 @@ use Rattle.plan.specs.declared.Plan.{Plan}
 use Rattle.plan.specs.Meanings.{box_in}
 use Rattle.search.specs.declared.Node.{Node}
 use Rattle.search.specs.Nodes.{labels}
+use Rattle.sheet.proofs.Extending.{zeros}
 use Rattle.sheet.proofs.Sets.{set_same}
 use Rattle.found.specs.Founds.{edge_in, added_in, joined_to}
 use Rattle.found.specs.Rows.{RowsOf, chains_of, share_of}
-use Rattle.found.proofs.Unions.{empty_set, share_is, any_none, any_more, zero_row}
+use Rattle.found.proofs.Unions.{empty_set, share_is, any_none, any_more}
 
 -- a role that is not transitive has no chains
 pub chains_none : (m n : ℕ) (b : Bool) (R : ℕ → ℕ → Bool) → m ≤ 64 → b ≡ false → RowsOf m (chains_of b m R) (replicate n 0)
 chains_none m n b R few e x h =
-    zero_row n x ∙ empty_set m (chains_of b m R x) few (λ y _. ap (λ b. b && reach m R x y) e)
+    zeros n x ∙ empty_set m (chains_of b m R x) few (λ y _. ap (λ b. b && reach m R x y) e)
 
 -- a transitive one has them all
 pub chains_all : (m : ℕ) (b : Bool) (R : ℕ → ℕ → Bool) (rows : List ℕ) → b ≡ true → RowsOf m (reach m R) rows → RowsOf m (chains_of b m R) rows
@@ -49,7 +50,7 @@ TableTo p nodes n table = (t x : ℕ) → t < 64 → x < length nodes → get_or
 
 -- no role, then one more
 pub table_none : (p : Plan) (nodes : List Node) (n : ℕ) → length nodes ≤ 64 → TableTo p nodes 0 (replicate n 0)
-table_none p nodes n few t x l h = zero_row n (64 * t + x) ∙ any_none (length nodes) (λ q. added_in p nodes q t x) few
+table_none p nodes n few t x l h = zeros n (64 * t + x) ∙ any_none (length nodes) (λ q. added_in p nodes q t x) few
 
 pub table_more : (p : Plan) (nodes : List Node) (q : ℕ) (was is : List ℕ) → length nodes ≤ 64
     → ((t x : ℕ) → t < 64 → x < length nodes → get_or is (64 * t + x) 0 ≡ bit_or (get_or was (64 * t + x) 0) (set_of (length nodes) (added_in p nodes q t x)))

@@ -59,10 +59,3 @@ module _ (m : ℕ) (f : ℕ → ℕ → Bool) (few : m ≤ 64) where
       ap (λ w. bit_or w more) e ∙ ap (bit_or (set_of m (λ y. any n (λ i. f i y)))) g
       ∙ set_or m (λ y. any n (λ i. f i y)) (f n) (λ y. any (suc n) (λ i. f i y)) few (λ y. or_turned (any n (λ i. f i y)) (f n y))
       ∙ ap (λ k. set_of m (λ y. any k (λ i. f i y))) (sym (add-one n))
-
--- a row of a table that was not written yet
-pub zero_row : (n k : ℕ) → ◌≡◌ {A = ℕ} (get_or (replicate n 0) k 0) 0
-zero_row n k = ⊎_elim
-    (λ l. get_or-replicate n k 0 0 l)
-    (λ g. get_or_past (replicate n 0) k 0 (omega (arith, length-replicate {A = ℕ} n 0)))
-    (cases_lt k n)

@@ -7,7 +7,11 @@ use Rattle.meaning.specs.Orders.{RoleBox}
 use Rattle.tableau.specs.Folds.{gather}
 use Rattle.tableau.specs.Working.{Propagated, propagates_by, propagated_by, propagated_list, nowhere}
 use Rattle.plan.specs.declared.propagated.Propagations.{Propagations}
-use Rattle.plan.specs.Listing.{propagated_to, noted_as, Lists, added}
+use Rattle.plan.specs.Listing.{noted_as, Lists, added}
+
+-- the propagated restrictions of the entries below i
+unfoldable pub propagated_to : RoleBox → Book → ℕ → List Propagated
+propagated_to H K i = gather i (λ i. gather H.count (propagated_by H K i))
 
 pub gather_none : {A : Type 0} (f : ℕ → List A) → gather 0 f ≡ []
 unfolding gather

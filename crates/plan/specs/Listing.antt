@@ -1,15 +1,8 @@
 -- The propagated restrictions as a list in an array.
 use Rattle.std.specs.Prelude.{◌≡◌, ℕ, ◌+◌, ◌<◌, cond, List, length, nat_lt, slice_index_or, slice_set}
-use Rattle.meaning.specs.Books.{Book}
-use Rattle.meaning.specs.Orders.{RoleBox}
-use Rattle.tableau.specs.Folds.{gather}
-use Rattle.tableau.specs.Working.{Propagated, propagated_by, nowhere}
+use Rattle.tableau.specs.Working.{Propagated, nowhere}
 use Rattle.plan.specs.declared.propagated.Propagation.{Propagation}
 use Rattle.plan.specs.declared.propagated.Propagations.{Propagations}
-
--- those of the entries below i
-unfoldable pub propagated_to : RoleBox → Book → ℕ → List Propagated
-propagated_to H K i = gather i (λ i. gather H.count (propagated_by H K i))
 
 -- one of them as it is noted
 abbrev pub noted_as : Propagated → Propagation

@@ -72,7 +72,8 @@ module _ (W : Interpretation) (concept : ℕ → Concept) (low : (i : ℕ) → L
             (cases_eq k i);
       }
 
-zeros : (n a : ℕ) → ◌≡◌ {A = ℕ} (get_or (replicate n 0) a 0) 0
+-- every place of zeros holds 0, those past the end too
+pub zeros : (n a : ℕ) → ◌≡◌ {A = ℕ} (get_or (replicate n 0) a 0) 0
 zeros zero a = refl
 zeros (suc n) zero = refl
 zeros (suc n) (suc a) = zeros n a

@@ -5,9 +5,19 @@ use Rattle.std.proofs.lemmas.Nat.{or_disjoint}
 use Rattle.std.proofs.lemmas.Bool.{cases_eq, cases_lt}
 use Rattle.std.proofs.lemmas.Bool.Decides.{nat_tests}
 use Rattle.words.specs.Sets.{has}
-use Rattle.words.proofs.Words.{has_none, has_or, has_and, has_single}
-use Rattle.successor.specs.Sets.{NoneFrom, NextFrom, TakesLowest}
-use Rattle.successor.proofs.Labels.{less_than_power, same_word}
+use Rattle.words.proofs.Words.{has_none, has_or, has_and, has_single, less_than_power, same_word}
+use Rattle.successor.specs.Sets.{TakesLowest}
+
+-- no number from `start` on is in the set
+abbrev pub NoneFrom : ℕ → ℕ → Type 0
+NoneFrom set start = (j : ℕ) → start ≤ j → has set j ≡ false
+
+-- i is the lowest member of the set from `start` on
+pub record NextFrom (set start i : ℕ) : Type 0 where
+  pub after : start ≤ i
+  pub inside : i < 64
+  pub member : has set i ≡ true
+  pub between : (j : ℕ) → start ≤ j → j < i → has set j ≡ false
 
 -- without one of its members a set is a lesser number
 pub less_without : (set i rest : ℕ) → has set i ≡ true → ((j : ℕ) → has rest j ≡ (has set j && not (eqb j i))) → rest < set

@@ -2,7 +2,7 @@
 use Rattle.std.proofs.Common.{◌≡◌, ℕ, zero, suc, ◌+◌, ◌^◌, ◌<◌, Bool, true, false, cond, ◌||◌, eqb, sym, refl, ap, ◌∙◌, add-zero, pow-suc, arith}
 use lib.Bits.{bit_or, or_zero_r}
 use Rattle.words.specs.Sets.{has, set_of}
-use Rattle.words.proofs.Words.{has_or, has_single, has_high, same_set, comprehends}
+use Rattle.words.proofs.Words.{has_or, has_single, has_high, same_word, comprehends}
 use Rattle.tableau.specs.declared.Label.{Label}
 use Rattle.tableau.specs.Folds.{fold}
 use Rattle.tableau.specs.Labels.{in_label, put, put_all}
@@ -14,16 +14,6 @@ in_plus l s i e = rw e refl
 pub in_minus : (l : Label) (s : Bool) (i : ℕ) → s ≡ false → in_label l s i ≡ has l.minus i
 unfolding in_label
 in_minus l s i e = rw e refl
-
-pub less_than_power : (n : ℕ) → n < 2 ^ n
-less_than_power zero = omega arith
-less_than_power (suc n) = let e = pow-suc 2 n in let h = less_than_power n in omega arith
-
--- numbers with the same members are the same
-pub same_word : (a b : ℕ) → ((k : ℕ) → has a k ≡ has b k) → a ≡ b
-same_word a b same =
-    let p = less_than_power (a + b) in
-    same_set (a + b) a b (omega arith) (omega arith) (λ k h. same k)
 
 -- a set with one more member, put into a word
 join_more : (w n x : ℕ) → x < 2 ^ n → bit_or (bit_or w x) (2 ^ n) ≡ bit_or w (x + 2 ^ n)

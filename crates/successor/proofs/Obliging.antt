@@ -17,7 +17,7 @@ use Rattle.plan.specs.Meanings.{table_in, box_in}
 use Rattle.plan.specs.Plans.{listed_entry}
 use Rattle.plan.specs.Signs.{obliging_entry}
 use Rattle.plan.proofs.Lowered.{plan_lower}
-use Rattle.successor.specs.Sets.{NoneFrom, NextFrom}
+use Rattle.successor.proofs.Emptying.{NoneFrom, NextFrom}
 use Rattle.successor.specs.Obligations.{seed_before, seeds_up, seeds_from}
 use Rattle.successor.proofs.Labels.{in_plus, in_minus}
 

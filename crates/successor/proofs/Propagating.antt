@@ -3,7 +3,7 @@ use Rattle.std.proofs.Common.{◌≡◌, ℕ, ◌^◌, ◌<◌, Bool, true, fals
 use lib.Bits.{bit_and, bit_or, or_zero_l, or_zero_r}
 use Rattle.std.proofs.lemmas.Bool.{and_cases, and_parts, and_from, and_left, and_right, or_parts, or_cases, both_ways, lt-ltb, eqb-true, cond-true, cond-false, cond_both}
 use Rattle.words.specs.Sets.{has, set_of}
-use Rattle.words.proofs.Words.{has_and, has_single, comprehends}
+use Rattle.words.proofs.Words.{has_and, has_single, same_word, comprehends}
 use Rattle.meaning.specs.Orders.{RoleBox}
 use Rattle.meaning.specs.declared.Concept.TheVariants.{Nothing, Everything, Name, Not, And, Or, Restriction}
 use Rattle.meaning.specs.declared.Quantifier.{Quantifier}
@@ -19,8 +19,7 @@ use Rattle.plan.specs.declared.Plan.{Plan}
 use Rattle.plan.specs.Meanings.{table_in, box_in}
 use Rattle.plan.specs.Plans.{listed_entry, listed_role}
 use Rattle.plan.specs.Signs.{restricting_entry, restricting_sign, said_of}
-use Rattle.successor.specs.Obligations.{told_by_signs}
-use Rattle.successor.proofs.Labels.{same_word, fold_puts, in_plus, in_minus}
+use Rattle.successor.proofs.Labels.{fold_puts, in_plus, in_minus}
 
 -- the propagated restrictions of entry i whose role is above r, told one by one, are told as one set
 pub propagated_told : (p : Plan) (r : ℕ) (s : Bool) (i : ℕ) (l : Label) → r < 64
@@ -49,8 +48,13 @@ propagated_told p r s i l few =
 pub above_at : (p : Plan) (r i : ℕ) → r < 64 → i < p.width → has (get_or p.above r 0) i ≡ has (get_or p.rows r 0) (listed_role p.entries i)
 above_at p r i few l = p.above_is r i few ∙ ap (λ b. b && has (get_or p.rows r 0) (listed_role p.entries i)) (lt-ltb i p.width l)
 
--- an entry whose role is not above r tells a successor by r nothing
-untold : (H : RoleBox) (B : Table) (r : ℕ) (s : Bool) (i : ℕ) (e : Entry) (acc : Label) → H.below r (role_of e) ≡ false → told_by_entry H B r s i e acc ≡ acc
+-- what entry i tells a successor by r, with either sign that the label holds it with
+abbrev pub told_by_signs : RoleBox → Table → Label → ℕ → ℕ → Label → Label
+told_by_signs H B l r i acc = tell H B l r true i (tell H B l r false i acc)
+
+-- an entry that restricts none with the sign, or whose role is not above r, tells a successor by r nothing
+untold : (H : RoleBox) (B : Table) (r : ℕ) (s : Bool) (i : ℕ) (e : Entry) (acc : Label) → (restricting_entry e s && H.below r (role_of e)) ≡ false
+    → told_by_entry H B r s i e acc ≡ acc
 untold H B r s i (Plain Nothing) acc h = refl
 untold H B r s i (Plain Everything) acc h = refl
 untold H B r s i (Plain (Name n)) acc h = refl
@@ -58,36 +62,22 @@ untold H B r s i (Plain (Not a)) acc h = refl
 untold H B r s i (Plain (And a b)) acc h = refl
 untold H B r s i (Plain (Or a b)) acc h = refl
 untold H B r s i (Plain (Restriction q t a)) acc h =
-    cond-false (not (obliges q s) && H.below r t) (told_further H B r s i t (put (sign_of q s) a acc)) acc (and_right (not (obliges q s)) (H.below r t) h)
+    cond-false (not (obliges q s) && H.below r t) (told_further H B r s i t (put (sign_of q s) a acc)) acc h
 untold H B r s i (Inclusion c d) acc h = refl
 untold H B r s i (Inclusions lo n) acc h = refl
 
 tell_low : (H : RoleBox) (B : Table) (l : Label) (r : ℕ) (s : Bool) (i : ℕ) (acc : Label) → H.below r (role_of (B.entry i)) ≡ false → tell H B l r s i acc ≡ acc
 tell_low H B l r s i acc h =
-    cond_both (in_label l s i) (told_by_entry H B r s i (B.entry i) acc) acc (λ m. m ≡ acc) (λ e. untold H B r s i (B.entry i) acc h) (λ e. refl)
-
-tell_out : (H : RoleBox) (B : Table) (l : Label) (r : ℕ) (s : Bool) (i : ℕ) (acc : Label) → in_label l s i ≡ false → tell H B l r s i acc ≡ acc
-tell_out H B l r s i acc h = cond-false (in_label l s i) (told_by_entry H B r s i (B.entry i) acc) acc h
-
--- nor does an entry, with a sign, that restricts none
-unsaid : (H : RoleBox) (B : Table) (r : ℕ) (s : Bool) (i : ℕ) (e : Entry) (acc : Label) → restricting_entry e s ≡ false → told_by_entry H B r s i e acc ≡ acc
-unsaid H B r s i (Plain Nothing) acc h = refl
-unsaid H B r s i (Plain Everything) acc h = refl
-unsaid H B r s i (Plain (Name n)) acc h = refl
-unsaid H B r s i (Plain (Not a)) acc h = refl
-unsaid H B r s i (Plain (And a b)) acc h = refl
-unsaid H B r s i (Plain (Or a b)) acc h = refl
-unsaid H B r s i (Plain (Restriction q t a)) acc h =
-    cond-false (not (obliges q s) && H.below r t) (told_further H B r s i t (put (sign_of q s) a acc)) acc (and_left (not (obliges q s)) (H.below r t) h)
-unsaid H B r s i (Inclusion c d) acc h = refl
-unsaid H B r s i (Inclusions lo n) acc h = refl
+    cond_both (in_label l s i) (told_by_entry H B r s i (B.entry i) acc) acc (λ m. m ≡ acc)
+    (λ e. untold H B r s i (B.entry i) acc (and_right (restricting_entry (B.entry i) s) (H.below r (role_of (B.entry i))) h)) (λ e. refl)
 
 -- so where the label holds no signed entry that restricts, nothing is told
 tell_unsaid : (H : RoleBox) (B : Table) (l : Label) (r : ℕ) (s : Bool) (i : ℕ) (acc : Label)
     → (in_label l s i && restricting_entry (B.entry i) s) ≡ false → tell H B l r s i acc ≡ acc
 tell_unsaid H B l r s i acc h =
     cond_both (in_label l s i) (told_by_entry H B r s i (B.entry i) acc) acc (λ m. m ≡ acc)
-    (λ e. unsaid H B r s i (B.entry i) acc (ap (λ b. b && restricting_entry (B.entry i) s) (sym e) ∙ h))
+    (λ e. untold H B r s i (B.entry i) acc
+    (and_left (restricting_entry (B.entry i) s) (H.below r (role_of (B.entry i))) (ap (λ b. b && restricting_entry (B.entry i) s) (sym e) ∙ h)))
     (λ e. refl)
 
 both : (H : RoleBox) (B : Table) (l : Label) (r i : ℕ) → ((s : Bool) (acc : Label) → tell H B l r s i acc ≡ acc) → (acc : Label) → told_by_signs H B l r i acc ≡ acc

@@ -10,9 +10,8 @@ use Rattle.tableau.specs.Seeds.{seed_of}
 use Rattle.plan.specs.declared.Plan.{Plan}
 use Rattle.plan.specs.Meanings.{table_in, box_in}
 use Rattle.plan.specs.Plans.{listed_role}
-use Rattle.successor.specs.Sets.{NoneFrom, NextFrom}
-use Rattle.successor.specs.Obligations.{told_by_signs}
-use Rattle.successor.proofs.Propagating.{Restricts, tells_nothing, told_turn}
+use Rattle.successor.proofs.Emptying.{NoneFrom, NextFrom}
+use Rattle.successor.proofs.Propagating.{Restricts, told_by_signs, tells_nothing, told_turn}
 
 skip_by : {A : Type 0} (f : ℕ → A → A) (a : A) (i d : ℕ) → ((j : ℕ) → i ≤ j → j < i + d → (x : A) → f j x ≡ x) → fold (i + d) f a ≡ fold i f a
 unfolding fold

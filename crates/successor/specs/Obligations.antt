@@ -4,7 +4,7 @@ use Rattle.meaning.specs.Orders.{RoleBox}
 use Rattle.tableau.specs.declared.Label.{Label}
 use Rattle.tableau.specs.declared.Demand.{Demand}
 use Rattle.tableau.specs.Entries.{Table}
-use Rattle.tableau.specs.Seeds.{obliged_at, tell, seed_of}
+use Rattle.tableau.specs.Seeds.{obliged_at, seed_of}
 use Rattle.plan.specs.declared.Plan.{Plan}
 use Rattle.plan.specs.Meanings.{table_in, box_in}
 
@@ -25,7 +25,3 @@ seeds_from H B l k = seeds_up H B l (B.width - k) k
 -- by the hierarchy and the table of a plan
 abbrev pub seeds_in : Plan → Label → ℕ → List Label
 seeds_in p l k = seeds_from (box_in p) (table_in p) l k
-
--- what entry i tells a successor by r, with either sign that the label holds it with
-abbrev pub told_by_signs : RoleBox → Table → Label → ℕ → ℕ → Label → Label
-told_by_signs H B l r i acc = tell H B l r true i (tell H B l r false i acc)

@@ -53,7 +53,7 @@ grew_on j k l m n low g h = record {
 }
 
 -- a fact of each way
-abbrev EachWay : (Label → Type 0) → Ways → Type 0
+abbrev pub EachWay : (Label → Type 0) → Ways → Type 0
 EachWay P (One l) = P l
 EachWay P (Two l m) = P l × P m
 
@@ -102,18 +102,18 @@ grown_takes k (Inclusions lo n) true l low = (
 grown_takes k (Inclusions lo n) false l low = (grew_none k l, tt)
 
 -- a way of l that takes entry k with the sign it has, + before -
-record Took (k : ℕ) (e : Entry) (l m : Label) : Type 0 where
-  grew : Grew k l m
+pub record Took (k : ℕ) (e : Entry) (l m : Label) : Type 0 where
+  pub grew : Grew k l m
   with_plus : in_label l true k ≡ true → Saturates e true m
   with_minus : in_label l true k ≡ false → in_label l false k ≡ true → Saturates e false m
 
 -- what follows from a fact of each way
-each_weaker : (P Q : Label → Type 0) → ((m : Label) → P m → Q m) → (w : Ways) → EachWay P w → EachWay Q w
+pub each_weaker : (P Q : Label → Type 0) → ((m : Label) → P m → Q m) → (w : Ways) → EachWay P w → EachWay Q w
 each_weaker P Q f (One l) p = f l p
 each_weaker P Q f (Two l m) p = (f l p.0, f m p.1)
 
 -- every way of the entry that is taken
-taken_took : (k : ℕ) (e : Entry) (l : Label) → LowerEntry k e → EachWay (Took k e l) (taken e k l)
+pub taken_took : (k : ℕ) (e : Entry) (l : Label) → LowerEntry k e → EachWay (Took k e l) (taken e k l)
 unfolding taken
 taken_took k e l low = go (in_label l true k) refl (in_label l false k) refl
   where

@@ -1,9 +1,9 @@
 -- Labels by their signed entries.
-use Rattle.std.proofs.Common.{◌≡◌, ℕ, zero, suc, ◌^◌, ◌<◌, Bool, true, false, ◌&&◌, ◌||◌, eqb, ◌⊎◌, List, [], ◌∷◌, ◌++◌, length, get_or, sym, refl, ap, ◌∙◌, subst, inl, inr, ⊎_elim, pow-suc, arith}
-use lib.Bits.{bit_and, bit_or, and_le_l}
+use Rattle.std.proofs.Common.{◌≡◌, ℕ, zero, suc, ◌^◌, ◌<◌, Bool, true, false, ◌||◌, eqb, ◌⊎◌, List, [], ◌∷◌, ◌++◌, length, get_or, sym, refl, ap, ◌∙◌, subst, inl, inr, ⊎_elim, arith}
+use lib.Bits.{bit_and, bit_or}
 use Rattle.std.proofs.lemmas.Bool.{cases_Bool, and_parts, and_from, or_cases, or_left, or_right, eqb-true, eq-eqb, both_ways, cond-true, cond-false}
 use Rattle.words.specs.Sets.{has}
-use Rattle.words.proofs.Words.{has_or, has_and, has_none, has_single, same_set, subset_to}
+use Rattle.words.proofs.Words.{has_or, has_none, has_single, subset_to, subset_from}
 use Rattle.tableau.specs.declared.Label.{Label}
 use Rattle.tableau.specs.Labels.{empty, in_label, put, contains, any_contains, lowest}
 use Rattle.tableau.specs.Saturation.{Holds}
@@ -46,26 +46,12 @@ unfolding in_label contains
 contains_at l seed e true i h = subset_to seed.plus l.plus (and_parts _ _ e).0 i h
 contains_at l seed e false i h = subset_to seed.minus l.minus (and_parts _ _ e).1 i h
 
--- a number is below two to its power
-below_power : (n : ℕ) → n < 2 ^ n
-below_power zero = omega arith
-below_power (suc n) = omega (arith, below_power n, pow-suc 2 n)
-
--- a word whose members are all in b is in b
-within : (a b : ℕ) → ((k : ℕ) → has a k ≡ true → has b k ≡ true) → eqb (bit_and a b) a ≡ true
-within a b w =
-    eq-eqb (bit_and a b) a (same_set a (bit_and a b) a (omega (arith, and_le_l a b, below_power a)) (below_power a) (λ k h. has_and a b k ∙ kept (has a k) (has b k) (w k)))
-  where
-    kept : (x y : Bool) → (x ≡ true → y ≡ true) → (x && y) ≡ x
-    kept true y f = f refl
-    kept false y f = refl
-
 -- and a label that holds what the seed holds contains it
 pub contains_from : (l seed : Label) → Holds l seed → contains l seed ≡ true
 unfolding in_label contains
 contains_from l seed h =
     and_from (eqb (bit_and seed.plus l.plus) seed.plus) (eqb (bit_and seed.minus l.minus) seed.minus)
-    (within seed.plus l.plus (h true)) (within seed.minus l.minus (h false))
+    (subset_from seed.plus l.plus (h true)) (subset_from seed.minus l.minus (h false))
 
 -- the lowest label that contains the seed is there, and contains it
 pub record There (st : List Label) (seed : Label) : Type 0 where

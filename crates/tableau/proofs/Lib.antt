@@ -1,6 +1,7 @@
 pub mod Tests
 pub mod Folding
 pub mod Labelling
+pub mod Sets
 pub mod Meanings
 pub mod Laws
 pub mod Restrictions

@@ -1,6 +1,6 @@
 -- Laws of membership in a word, from the laws of bits and halves.
 use Rattle.std.proofs.Common.{◌≡◌, ℕ, zero, suc, ◌+◌, ◌-◌, ◌*◌, ◌/◌, ◌%◌, ◌^◌, ◌<◌, ◌≤◌, min, max, Bool, true, false, cond, not, ◌&&◌, ◌||◌, eqb, ltb, sym, refl, ap, ◌∙◌, subst, ⊎_elim, pow-suc, div-one, one-add, arith, pow_mono}
-use lib.Bits.{bit_and, bit_or, and_step, or_step, and_mask, and_lt, or_shifted}
+use lib.Bits.{bit_and, bit_or, and_step, or_step, and_mask, or_shifted}
 use lib.Count.{count_leading_zeros, count_trailing_zeros, under}
 use Rattle.std.proofs.lemmas.Nat.{shr-shr, pow_pos, leading_top}
 use Rattle.std.proofs.lemmas.Bool.Decides.{nat_tests}
@@ -154,15 +154,24 @@ leading_highest w p q =
       most = λ j h. has_above (suc s.0) w j s.3 (omega arith);
     })
 
+pub less_than_power : (n : ℕ) → n < 2 ^ n
+less_than_power zero = omega arith
+less_than_power (suc n) = let e = pow-suc 2 n in let h = less_than_power n in omega arith
+
+-- numbers with the same members are the same
+pub same_word : (a b : ℕ) → ((k : ℕ) → has a k ≡ has b k) → a ≡ b
+same_word a b same =
+    let p = less_than_power (a + b) in
+    same_set (a + b) a b (omega arith) (omega arith) (λ k h. same k)
+
 -- a subset, by the intersection
 pub subset_to : (a b : ℕ) → eqb (bit_and a b) a ≡ true → Within a b
 subset_to a b e j h =
     let same = eqb-true (bit_and a b) a e in
     (and_parts (has a j) (has b j) (sym (has_and a b j) ∙ ap (λ n. has n j) same ∙ h)).1
 
-pub subset_from : (a b : ℕ) → a < 2 ^ 64 → b < 2 ^ 64 → Within a b → eqb (bit_and a b) a ≡ true
-subset_from a b p q w =
-    eq-eqb (bit_and a b) a (same_set 64 (bit_and a b) a (and_lt 64 a b p q) p (λ k h. has_and a b k ∙ kept (has a k) (has b k) (w k)))
+pub subset_from : (a b : ℕ) → Within a b → eqb (bit_and a b) a ≡ true
+subset_from a b w = eq-eqb (bit_and a b) a (same_word (bit_and a b) a (λ k. has_and a b k ∙ kept (has a k) (has b k) (w k)))
   where
     kept : (x y : Bool) → (x ≡ true → y ≡ true) → (x && y) ≡ x
     kept true y f = f refl
@@ -171,9 +180,8 @@ subset_from a b p q w =
 pub disjoint_to : (a b : ℕ) → eqb (bit_and a b) 0 ≡ true → Disjoint a b
 disjoint_to a b e j = sym (has_and a b j) ∙ ap (λ n. has n j) (eqb-true (bit_and a b) 0 e) ∙ has_none j
 
-pub disjoint_from : (a b : ℕ) → a < 2 ^ 64 → b < 2 ^ 64 → Disjoint a b → eqb (bit_and a b) 0 ≡ true
-disjoint_from a b p q d =
-    eq-eqb (bit_and a b) 0 (same_set 64 (bit_and a b) 0 (and_lt 64 a b p q) (omega arith) (λ k h. has_and a b k ∙ d k ∙ sym (has_none k)))
+pub disjoint_from : (a b : ℕ) → Disjoint a b → eqb (bit_and a b) 0 ≡ true
+disjoint_from a b d = eq-eqb (bit_and a b) 0 (same_word (bit_and a b) 0 (λ k. has_and a b k ∙ d k ∙ sym (has_none k)))
 
 -- 2 ^ n and a smaller word
 pub has_high : (n w j : ℕ) → w < 2 ^ n → has (w + 2 ^ n) j ≡ (eqb j n || has w j)

@@ -1,6 +1,7 @@
 use Rattle.std.proofs.Common.{suc, not, sym, ◌∙◌, arith}
 use Rattle.std.proofs.lemmas.Bool.{not-true, not-false}
 use Rattle.plan.specs.Meanings.{table_in}
+use Rattle.plan.proofs.Lowered.{plan_lower}
 use Rattle.expand.specs.declared.Run.TheVariants.{Done}
 use Rattle.expand.specs.Runs.{Comes}
 use Rattle.expand.proofs.Running.{some_if, along_free, along_dead, along_one}
@@ -39,4 +40,4 @@ returns c =
     let so = c.loop-i.invariant in
     rw c.then_some.ensures (some_if _ (Comes B c.args.k l) (not c.clashes-2.result) (Done at)
     (λ calm. (along_free B c.args.k l c.loop-i.left at so 0 (omega arith) c.in_default.ensures, sym c.clashes-2.ensures ∙ not-true _ calm))
-    (λ dead. along_dead B c.args.k l c.loop-i.left at so (sym c.clashes-2.ensures ∙ not-false _ dead)))
+    (λ dead. along_dead B c.args.k l c.loop-i.left at so (plan_lower c.args.plan.now) (sym c.clashes-2.ensures ∙ not-false _ dead)))

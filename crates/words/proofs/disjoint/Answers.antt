@@ -10,5 +10,5 @@ returns c =
     let is = ap (λ w. eqb w 0) c.intersection.ensures.value in
     record {
       value = is;
-      members = subst (λ (t : Bool). Decides t (Disjoint a b)) (sym is) (disjoint_to a b, disjoint_from a b c.ranges.a.fits c.ranges.b.fits);
+      members = subst (λ (t : Bool). Decides t (Disjoint a b)) (sym is) (disjoint_to a b, disjoint_from a b);
     }

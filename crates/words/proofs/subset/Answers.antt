@@ -10,5 +10,5 @@ returns c =
     let is = ap (λ w. eqb w a) c.intersection.ensures.value in
     record {
       value = is;
-      members = subst (λ (t : Bool). Decides t (Within a b)) (sym is) (subset_to a b, subset_from a b c.ranges.a.fits c.ranges.b.fits);
+      members = subst (λ (t : Bool). Decides t (Within a b)) (sym is) (subset_to a b, subset_from a b);
     }

@@ -1,7 +1,8 @@
 use Rattle.book.specs.Sections.{says}
 use Rattle.book.specs.Views.{view}
 use Rattle.plan.specs.Building.{box_of}
-use Rattle.plan.specs.Listing.{Lists, propagated_to}
+use Rattle.plan.specs.Listing.{Lists}
+use Rattle.plan.proofs.Listing.{propagated_to}
 use Rattle.plan.proofs.Listing.{so_far}
 use Rattle.plan.proofs.propagated.Propagations.of.Given as goal
 
