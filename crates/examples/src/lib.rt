@@ -1,5 +1,5 @@
 // The worked examples of the search and of the register, run in lent nodes; the same facts are proved about the definitions
-// in `tableau` and `runs`.
+// in `runs`.
 #![tactic(auto)]
 
 #[cfg(test)]

@@ -26,6 +26,9 @@ use Rattle.runs.specs.Examples.{RegisterExamples}
 pub register_examples : RegisterExamples
 unfolding has set_of any all first reach decode named fitting number16 section_from laying checking reading told closure fold gather empty in_label put contains any_contains lowest clash taken branch expand expansions told_propagated seed_of or_else and_then reuse pursue meet_from try_each enter explore leads edge joined borne propagated_list entry_of propagates_of word_at words_of drawn_on apart compared placed placing asking showing history
 register_examples = record {
+  a_width = refl;
+  b_width = refl;
+  b_stands = refl;
   a_nothing = refl;
   a_room = refl;
   a_asks = refl;

@@ -1,12 +1,14 @@
--- The two small books again, as bytes, and what a register opened on them answers.
+-- Two small books, as bytes, and what searches in them come to and a register opened on them answers.
 use Rattle.std.specs.Prelude.{◌≡◌, ℕ, true, false, List, [], ◌∷◌, ◌++◌, map, replicate}
 use Rattle.denial.specs.Denials.{Answer, granted, denied, and_then, reported}
 use Rattle.denial.specs.declared.Layer.TheVariants.{Trailer}
 use Rattle.book.specs.Sections.{says}
 use Rattle.book.specs.Reading.{reading}
 use Rattle.roles.specs.Hierarchies.{roles_of}
+use Rattle.tableau.specs.Search.{Outcome, stands}
+use Rattle.tableau.specs.Working.{width_of, seed_of_one}
 use Rattle.plan.specs.Building.{verdict}
-use Rattle.runs.specs.Setups.{setup}
+use Rattle.runs.specs.Setups.{setup, search_in}
 use Rattle.runs.specs.Steps.{Call, file, ask, show, Reply, class, said, shown, refusal}
 use Rattle.runs.specs.Runs.{Event, history}
 
@@ -33,7 +35,19 @@ replies a = and_then a (λ run. granted (map (λ e. e.done.reply) run))
 abbrev pub sheets : Answer (List Event) → Answer (List (List ℕ))
 sheets a = and_then a (λ run. granted (map (λ e. e.done.sheet) run))
 
+-- how many working entries the book in the bytes has under its own hierarchy
+abbrev pub width_on : List ℕ → Answer ℕ
+width_on bytes = and_then (reading bytes) (λ s. granted (width_of (roles_of s) (says s)))
+
+-- what the search for an individual in entry a of the book comes to in n nodes
+abbrev pub search_on : List ℕ → ℕ → ℕ → Answer Outcome
+search_on bytes a n = and_then (reading bytes) (λ s. granted (search_in (setup (roles_of s) (says s)) (seed_of_one a) n))
+
 pub record RegisterExamples : Type 0 where
+  pub a_width : width_on bytes_a ≡ granted 9
+  pub b_width : width_on bytes_b ≡ granted 5
+  -- entry 0 of B in one node: its label has every working entry with +
+  pub b_stands : search_on bytes_b 0 1 ≡ granted (stands (record { plus = 31; minus = 0 } ∷ []))
   -- entry 5 of A has no individual in any world that keeps A: three nodes show it, and two are too few
   pub a_nothing : replies (run_on bytes_a (file 5 3 ∷ [])) ≡ granted (class 0 ∷ [])
   pub a_room : replies (run_on bytes_a (file 5 2 ∷ [])) ≡ granted (refusal 15 0 ∷ [])

@@ -1,23 +1,15 @@
--- The worked examples: the two books open, and the searches are computed on the definitions.
+-- The two books of the examples open.
 use Rattle.std.proofs.Common.{◌≡◌, ℕ, zero, suc, ◌<◌, ◌≤◌, true, ◌&&◌, eqb, ltb, refl, ⊎_elim, arith}
 use Rattle.std.proofs.lemmas.Bool.{cases_eq, and_parts, and_from, or_cases, or_left, or_right, eqb-true, eq-eqb, ltb-true, lt-ltb}
-use Rattle.words.specs.Sets.{has}
-use Rattle.meaning.specs.Bounded.{any, all}
-use Rattle.meaning.specs.Chains.{reach}
 use Rattle.meaning.specs.Books.{Sound}
 use Rattle.meaning.specs.Worlds.{Lower}
 use Rattle.meaning.specs.declared.Concept.TheVariants.{Name, Restriction}
 use Rattle.meaning.specs.declared.Quantifier.{Quantifier}
 use Rattle.tableau.specs.Entries.{Ordered}
-use Rattle.tableau.specs.Folds.{fold, gather}
-use Rattle.tableau.specs.Labels.{empty, in_label, put, contains, any_contains, lowest}
-use Rattle.tableau.specs.Expansions.{clash, taken, branch, expand, expansions}
-use Rattle.tableau.specs.Seeds.{told_propagated, seed_of}
-use Rattle.tableau.specs.Search.{or_else, and_then, reuse, pursue, meet_from, try_each, enter, explore}
-use Rattle.tableau.specs.Found.{leads, edge, joined, borne}
-use Rattle.tableau.specs.Working.{propagated_list, entry_of, propagates_of, width_of}
+use Rattle.tableau.specs.Folds.{gather}
+use Rattle.tableau.specs.Working.{propagated_list, width_of}
 use Rattle.tableau.specs.Promises.{Opens}
-use Rattle.tableau.specs.Examples.{roles_a, book_a, roles_b, book_b, WorkedExamples, ExamplesOpen}
+use Rattle.tableau.specs.Examples.{roles_a, book_a, roles_b, book_b, ExamplesOpen}
 use Rattle.tableau.proofs.Tests.{never}
 
 -- below in the first hierarchy is "at most" among 0 and 1, used and made
@@ -145,20 +137,6 @@ sound_b = record {
 opens_b : Opens roles_b book_b
 unfolding gather propagated_list
 opens_b = let w : width_of roles_b book_b ≡ 5 = refl in record { ordered = ordered_b; roles = refl; few = omega arith; sound = sound_b; narrow = omega arith }
-
--- the rest by computing it
-pub worked_examples : WorkedExamples
-unfolding has any all reach fold gather empty in_label put contains any_contains lowest clash taken branch expand expansions told_propagated seed_of or_else and_then reuse pursue meet_from try_each enter explore leads edge joined borne propagated_list entry_of propagates_of
-worked_examples = record {
-  a_width = refl;
-  b_width = refl;
-  a_fails = refl;
-  a_full = refl;
-  b_stands = refl;
-  b_one = refl;
-  b_loop = refl;
-  b_full = refl;
-}
 
 pub examples_open : ExamplesOpen
 examples_open = record { a_opens = opens_a; b_opens = opens_b }

@@ -1,13 +1,11 @@
--- Two small books, and what the search makes of their entries.
-use Rattle.std.specs.Prelude.{◌≡◌, ℕ, true, false, ◌&&◌, ◌||◌, [], ◌∷◌, ◌==◌, nat_lt, slice_index_or}
+-- Two small books for which the hypotheses of the theorems hold. What searches come to in them is computed from their bytes in
+-- `runs`.
+use Rattle.std.specs.Prelude.{false, ◌&&◌, ◌||◌, [], ◌∷◌, ◌==◌, nat_lt, slice_index_or}
 use Rattle.meaning.specs.Books.{Book}
 use Rattle.meaning.specs.Orders.{RoleBox}
 use Rattle.meaning.specs.declared.Concept.TheVariants.{Nothing, Name, Not, And, Restriction}
 use Rattle.meaning.specs.declared.Quantifier.TheVariants.{Exists, Forall}
-use Rattle.tableau.specs.declared.Label.{Label}
-use Rattle.tableau.specs.Search.{Outcome, failed, full, stands}
-use Rattle.tableau.specs.Working.{width_of, seed_of_one}
-use Rattle.tableau.specs.Promises.{Opens, search_from, found_world}
+use Rattle.tableau.specs.Promises.{Opens}
 
 -- Book A: role 0 is transitive and below role 1. Entry 5 wants a successor's successor in entry 0 by role 0, and none in
 -- it by role 1: no individual of any world that keeps the book is in it.
@@ -35,29 +33,6 @@ book_b = record {
   rules = 1;
   rule = λ k. record { premise = 0; conclusion = 1 };
 }
-
--- the label of the one node that stands for entry 0 of B: every working entry with +
-abbrev pub label_b : Label
-label_b = record { plus = 31; minus = 0 }
-
-abbrev pub search_a : ℕ → ℕ → Outcome
-search_a a n = search_from roles_a book_a (seed_of_one a) n
-
-abbrev pub search_b : ℕ → ℕ → Outcome
-search_b a n = search_from roles_b book_b (seed_of_one a) n
-
-pub record WorkedExamples : Type 0 where
-  pub a_width : width_of roles_a book_a ≡ 9
-  pub b_width : width_of roles_b book_b ≡ 5
-  -- entry 5 of A with three nodes and with two
-  pub a_fails : search_a 5 3 ≡ failed
-  pub a_full : search_a 5 2 ≡ full
-  -- entry 0 of B with one node: it stands, and is joined to itself
-  pub b_stands : search_b 0 1 ≡ stands (label_b ∷ [])
-  pub b_one : (found_world roles_b book_b (label_b ∷ [])).size ≡ 1
-  pub b_loop : (found_world roles_b book_b (label_b ∷ [])).joins 0 0 0 ≡ true
-  -- entry 1 of B with one node
-  pub b_full : search_b 1 1 ≡ full
 
 -- both books open: the theorems speak of them
 pub record ExamplesOpen : Type 0 where

@@ -5,7 +5,7 @@
 ghost use Rattle.std.specs.Prelude.{◌≡◌, ℕ, ◌<◌, ◌||◌};
 ghost use Rattle.words.specs.Sets.{has};
 ghost use Rattle.tableau.specs.Labels.{in_label, sign_at, put, put_all, joined, common, contains};
-ghost use Rattle.tableau.specs.Examples.{WorkedExamples, ExamplesOpen};
+ghost use Rattle.tableau.specs.Examples.{ExamplesOpen};
 ghost use Rattle.tableau.specs.Promises.{FailureIsRight, SuccessIsRight, RoomSuffices, StandingLabelsDiffer, FullIsRight, EdgesAreThoseChosen, SearchDecides};
 
 use meaning::Concept;
@@ -128,12 +128,7 @@ pub struct Demand {
     pub part: u8,
 }
 
-// The worked examples hold of the definitions.
-pub fn examples_hold()
-    ensures { WorkedExamples }
-{}
-
-// Both worked books open: the theorems speak of them.
+// Both books of the examples open: the theorems speak of them.
 pub fn examples_open()
     ensures { ExamplesOpen }
 {}
