@@ -2,14 +2,13 @@
 use Rattle.std.proofs.Common.{◌≡◌, ℕ, zero, suc, ◌+◌, ◌-◌, ◌*◌, ◌<◌, ◌≤◌, Bool, true, false, not, ◌&&◌, ◌||◌, eqb, ltb, List, length, get_or, sym, refl, ap, ◌∙◌, ⊎_elim, arith}
 use lib.Bits.{bit_and}
 use Rattle.std.proofs.lemmas.List.{length-map, get_or-map}
-use Rattle.std.proofs.lemmas.Bool.{cases_Bool, cases_eq, both_ways, and_parts, and_from, and_right, eqb-true, eq-eqb, lt-ltb, ltb-true}
+use Rattle.std.proofs.lemmas.Bool.{cases_eq, lt-ltb}
 use Rattle.std.proofs.lemmas.Bool.Decides.{nat_tests}
 use Rattle.words.specs.Sets.{has}
-use Rattle.words.proofs.Words.{has_none, has_and, same_set}
+use Rattle.words.proofs.Words.{has_and}
 use Rattle.meaning.specs.Agreement.{Agree}
 use Rattle.meaning.specs.Bounded.{any}
 use Rattle.meaning.specs.Chains.{reach}
-use Rattle.meaning.proofs.Tests.{any_some, any_none}
 use Rattle.tableau.specs.Labels.{empty, in_label}
 use Rattle.tableau.specs.Found.{joined, borne}
 use Rattle.tableau.proofs.Sets.{some_member}

@@ -1,8 +1,6 @@
 -- Sets of numbers below m, joined as words.
-use Rattle.std.proofs.Common.{◌≡◌, ℕ, suc, ◌+◌, ◌^◌, ◌<◌, ◌≤◌, Bool, true, false, cond, ◌&&◌, ◌||◌, ltb, get_or, replicate, sym, refl, ap, ◌∙◌, ⊎_elim, add-one, arith, pow_mono}
+use Rattle.std.proofs.Common.{◌≡◌, ℕ, suc, ◌+◌, ◌^◌, ◌<◌, ◌≤◌, Bool, true, false, cond, ◌&&◌, ◌||◌, ltb, sym, refl, ap, ◌∙◌, add-one, arith, pow_mono}
 use lib.Bits.{bit_or, or_lt}
-use Rattle.std.proofs.lemmas.List.{get_or-replicate, get_or_past, length-replicate}
-use Rattle.std.proofs.lemmas.Bool.{cases_lt}
 use Rattle.words.specs.Sets.{has, set_of}
 use Rattle.words.proofs.Words.{has_or, comprehends, set_is}
 use Rattle.meaning.specs.Bounded.{any}

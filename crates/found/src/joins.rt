@@ -70,8 +70,7 @@ impl<'a> Edges<'a> {
 
 // What each role joins each individual to.
 pub fn table(plan: &Plan, nodes: &[Node]) -> [u64; 4096]
-    requires roles { plan.now.count ≤ 64 }
-    requires few { length nodes.now ≤ 64 }
+    requires { length nodes.now ≤ 64 }
     ensures { (t x : ℕ) → t < 64 → x < length nodes.now → slice_index result (64 * t + x) ≡ set_of (length nodes.now) (joined_to plan.now nodes.now plan.now.count t x) }
 {
     let mut table = [0; TABLE];

@@ -41,9 +41,7 @@ pub struct Found<'a> {
 impl<'a> Found<'a> {
     // The found world of the labels of the nodes, for the roles of the book. Refused where there are not 1 to 64 nodes, with
     // their number.
-    // Stays: `count ≤ 64` in three contracts. A plan's fields are public: as a ghost field it would be asked of all who make one.
     pub fn new(plan: &Plan, nodes: &'a [Node]) -> Result<Found<'a>, Denial>
-        requires { plan.now.count ≤ 64 }
         ensures value { answer (λ f. f.nodes.now) denial_report result ≡ finding nodes.now }
         ensures roles { IfOk result (λ f. f.roles ≡ plan_roles plan.now) }
         ensures world { IfOk result (λ f. Agree (plan_roles plan.now) (kept_world f.nodes.now f.roles f.names f.rows) (found_in plan.now (labels nodes.now))) }
@@ -62,7 +60,6 @@ impl<'a> Found<'a> {
 
 // The roles of the book: all of the plan's but the last.
 fn roles(plan: &Plan) -> u8
-    requires { plan.now.count ≤ 64 }
     ensures { result ≡ plan_roles plan.now }
 {
     plan.count.saturating_sub(1) as u8

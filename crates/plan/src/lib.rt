@@ -47,6 +47,7 @@ pub struct Plan {
     pub passed_on: [u64; 64],
     pub forced: Forced,
     ghost few: { width ≤ 64 },
+    ghost few_roles: { count ≤ 64 },
     ghost entries_long: { length entries ≡ 64 },
     ghost rows_long: { length rows ≡ 64 },
     ghost above_long: { length above ≡ 64 },

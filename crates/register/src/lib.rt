@@ -30,7 +30,6 @@ pub struct Register {
     classes: Classes,
     ghost wide: { entries + 2 ≤ plan.width },
     ghost universal: { 0 < plan.count },
-    ghost few_roles: { plan.count ≤ 64 },
     ghost few_entries: { entries ≤ 60 },
     ghost few: { length classes ≤ 24 },
     ghost named: { (k : ℕ) → k < length classes → slice_index classes k < entries },

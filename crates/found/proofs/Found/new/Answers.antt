@@ -6,4 +6,4 @@ use Rattle.found.proofs.Found.new.Goals as goal
 pub returns-clause-world : goal.returns-clause-world
 returns-clause-world c =
     let some : 1 ≤ length c.args.nodes.now = omega (arith, eqb-false (length c.args.nodes.now) 0 (sym c.if-is_empty.ensures)) in
-    agrees c.args.plan.now c.args.nodes.now c.roles.result c.names.result c.table.result some (omega arith) c.requires c.roles.ensures c.names.ensures c.table.ensures
+    agrees c.args.plan.now c.args.nodes.now c.roles.result c.names.result c.table.result some (omega arith) c.args.plan.now.few_roles c.roles.ensures c.names.ensures c.table.ensures
