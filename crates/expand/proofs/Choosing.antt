@@ -1,14 +1,14 @@
 -- The laws of choice words: from 0 on there are all expansions, and from the weight on there is none.
-use Rattle.std.proofs.Common.{◌≡◌, ℕ, zero, suc, ◌+◌, ◌-◌, ◌^◌, ◌≤◌, Bool, true, false, cond, not, ◌&&◌, ◌||◌, eqb, List, [], ◌∷◌, ◌++◌, length, refl, ap, ◌∙◌, ap₂, ⊎_elim, pow-suc, arith, length-append, pow_mono}
+use Rattle.std.proofs.Common.{◌≡◌, ℕ, zero, suc, ◌+◌, ◌-◌, ◌^◌, ◌≤◌, Bool, true, false, cond, ◌&&◌, ◌||◌, eqb, List, [], ◌∷◌, ◌++◌, length, refl, ap, ◌∙◌, ap₂, ⊎_elim, pow-suc, arith, length-append, pow_mono}
 use Rattle.std.proofs.lemmas.Bool.{and_parts, and_from, or_cases, or_left, or_right, ne_eqb, cond-true, cond-false, cond_both}
 use Rattle.meaning.specs.declared.Concept.TheVariants.{Nothing, Everything, Name, Not, And, Or, Restriction}
 use Rattle.meaning.proofs.Tests.{any_from, any_some}
 use Rattle.tableau.specs.declared.Label.{Label}
 use Rattle.tableau.specs.declared.Entry.{Entry}
 use Rattle.tableau.specs.declared.Entry.TheVariants.{Plain, Inclusion, Inclusions}
-use Rattle.tableau.specs.Labels.{in_label, put}
+use Rattle.tableau.specs.Labels.{in_label}
 use Rattle.tableau.specs.Entries.{Table, LowerEntry}
-use Rattle.tableau.specs.Expansions.{Ways, One, Two, absurd_entry, clash_at, clash, one_of, grown, taken, branch, expand, expansions}
+use Rattle.tableau.specs.Expansions.{Ways, One, Two, absurd_entry, clash_at, clash, grown, taken, branch, expand, expansions}
 use Rattle.tableau.specs.Saturation.{Holds}
 use Rattle.tableau.proofs.Growing.{EachWay, Took, each_weaker, taken_took}
 use Rattle.expand.specs.Choices.{weight, fork, from}

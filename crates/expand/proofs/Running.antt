@@ -9,7 +9,7 @@ use Rattle.meaning.specs.declared.Concept.TheVariants.{Nothing, Everything, Name
 use Rattle.tableau.specs.declared.Entry.{Entry}
 use Rattle.tableau.specs.declared.Entry.TheVariants.{Plain, Inclusion, Inclusions}
 use Rattle.tableau.specs.Labels.{in_label, common}
-use Rattle.tableau.specs.Entries.{Table}
+use Rattle.tableau.specs.Entries.{Table, LowerEntry}
 use Rattle.tableau.specs.Expansions.{One, clash, grown, taken}
 use Rattle.plan.specs.declared.Plan.{Plan}
 use Rattle.plan.specs.Plans.{listed_entry}

@@ -1,9 +1,6 @@
 -- The clashes of a label as one word.
-use Rattle.std.proofs.Common.{◌≡◌, ℕ, ◌^◌, ◌<◌, ◌≤◌, Bool, true, false, not, ◌&&◌, ◌||◌, eqb, ltb, sym, refl, ap, ◌∙◌, ⊎_elim, arith}
-use Rattle.std.proofs.lemmas.Bool.{cases_Bool, and_from, and_parts, ltb-true, lt-ltb, eq-eqb, eqb-true, both_ways, not_from_true, not_from_false}
+use Rattle.std.proofs.Common.{◌≡◌, ℕ, Bool, true, false, not, ◌&&◌, ◌||◌, eqb, ltb, refl}
 use Rattle.words.specs.Sets.{has}
-use Rattle.words.proofs.Words.{has_none, same_set}
-use Rattle.meaning.proofs.Tests.{any_some, any_none}
 use Rattle.tableau.specs.declared.Label.{Label}
 use Rattle.tableau.specs.Entries.{Table}
 use Rattle.tableau.specs.Expansions.{clash_at, clash}
