@@ -6,8 +6,7 @@ use Rattle.denial.specs.declared.Report.{Report}
 use Rattle.denial.specs.declared.Layer.TheVariants.{Register}
 use Rattle.meaning.specs.Books.{Sound}
 use Rattle.book.specs.Sections.{Sections, says}
-use Rattle.roles.specs.Told.{marked}
-use Rattle.roles.specs.Laws.{closure_law}
+use Rattle.roles.specs.Laws.{closure_law, marked_inside}
 use Rattle.roles.specs.Hierarchies.{roles_of}
 use Rattle.tableau.specs.Entries.{Ordered}
 use Rattle.tableau.specs.Working.{width_of}
@@ -18,7 +17,7 @@ use Rattle.plan.specs.Building.{verdict}
 rows_ordered : (s : Sections) → Sound (says s) → Ordered (roles_of s)
 rows_ordered s sound = record {
   law = closure_law (length s.roles) s.pairs sound.few_roles;
-  inside = λ r t. ltb-true r (length s.roles) (and_parts (ltb r (length s.roles)) (marked s.roles r) t).0;
+  inside = marked_inside s.roles;
 }
 
 -- two tests in a row that let all pass were both passed
