@@ -1,7 +1,4 @@
 -- The working entries by their place, and the sets of them.
-use Rattle.std.specs.Array.{IsFromFnResult, IsFromFnResultFrom}
-use Rattle.std.specs.Fn.{Called}
-use denote.Param.Members.{Mut}
 use Rattle.std.proofs.Common.{◌≡◌, ℕ, zero, suc, ◌+◌, ◌-◌, ◌<◌, ◌≤◌, Bool, true, false, ◌&&◌, eqb, ltb, leb, List, length, get_or, take, sym, ap, ◌∙◌, subst, ⊎_elim, arith, length-take}
 use Rattle.std.proofs.lemmas.List.{get_or_past, get_or-take}
 use Rattle.std.proofs.lemmas.Bool.{cases_lt, cases_eq, and_parts, and_left, and_right, ltb-true, lt-ltb, le-ltb, le-leb, lt-leb, ne_eqb}
@@ -24,20 +21,6 @@ use Rattle.plan.specs.Building.{box_of}
 use Rattle.plan.specs.Plans.{listed_entry}
 use Rattle.plan.specs.Signs.{Signs, said_of}
 use Rattle.plan.specs.Listing.{noted_as}
-
--- a table that a closure filled, where the closure computes h
-module _ {F B : Type 0} {g : Mut F (ℕ × Unit {0}) B} {f : F} (ys : List B) (h : ℕ → B) (d : B) (says : (k : ℕ) (y : B) (q : F) → Called g f (k, tt) y q → (q ≡ f) × (y ≡ h k)) where
-  filled_from : (i n : ℕ) → IsFromFnResultFrom g f ys i n → (k : ℕ) → i ≤ k → k < i + n → get_or ys k d ≡ h k
-  filled_from i zero e k l m = absurd (omega arith)
-  filled_from i (suc n) e k l m =
-      let now = says i e.1 e.0 e.3 in
-      ⊎_elim
-      (λ (same : k ≡ i). rw same (e.2.1 d ∙ now.1))
-      (λ other. filled_from (i + 1) n (subst (λ q. IsFromFnResultFrom g q ys (i + 1) n) now.0 e.4) k (omega arith) (omega arith))
-      (cases_eq k i)
-
-  pub filled : (n : ℕ) → IsFromFnResult g f ys n → (k : ℕ) → k < n → get_or ys k d ≡ h k
-  filled n r k l = filled_from 0 n r.each k (omega arith) (omega arith)
 
 -- a propagated restriction stands before the rules
 pub propagated_inside : (H : RoleBox) (K : Book) (i j : ℕ) → propagates_of H K i j ≡ true → j < plain_of H K

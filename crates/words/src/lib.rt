@@ -5,6 +5,8 @@
 ghost use Rattle.std.specs.Prelude.{◌≡◌, ℕ, ◌-◌, ◌^◌, ◌<◌, ◌≤◌, Bool, true, false, not, ◌&&◌, ◌||◌, Decides, ◌==◌, bit_and, bit_or, nat_lt, slice_index};
 ghost use Rattle.words.specs.Sets.{has, set_of, Tests, Within, Disjoint, Determined, Comprehension};
 
+use std::array;
+
 // Whether k is in the set.
 // Stays: `k < 64` in three contracts, and words by themselves. Types for a set and a member would be made and taken apart at
 // each call.
@@ -116,16 +118,16 @@ pub fn collect<F: Fn(usize) -> bool>(n: usize, passes: F) -> u64
 }
 
 // The table of 64 words whose word k is what the function gives for k.
-// Stays: what `array::from_fn` asks of a function did not prove where the function is a parameter.
 pub fn tabulate<F: Fn(usize) -> u64>(row: F) -> [u64; 64]
     requires { (k : ℕ) → k < 64 → F.pre row k }
     ensures { (k : ℕ) → k < 64 → F.post row k (slice_index result k) }
 {
-    let mut table = [0; 64];
-    for (k, word) in table.iter_mut().enumerate() {
-        *word = row(k);
-    }
-    table
+    array::from_fn(|k|
+        requires { F.pre row k }
+        ensures { F.post row k result }
+    {
+        row(k)
+    })
 }
 
 // Two words with the same members are the same word, so the contracts above pin their results; and the word that is
