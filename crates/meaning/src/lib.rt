@@ -84,6 +84,7 @@ pub trait Hierarchy: Order {
     fn transitive(&self, r: usize) -> bool
         ensures { result ≡ passing self.now r };
 
+    // Only roles are transitive.
     ghost inside: { (x : Self) (r : ℕ) → passing x r ≡ true → r < Self.Order.size x };
 }
 

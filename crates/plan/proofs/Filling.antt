@@ -1,7 +1,7 @@
 -- The working entries by their place, and the sets of them.
-use Rattle.std.proofs.Common.{◌≡◌, ℕ, zero, suc, ◌+◌, ◌-◌, ◌<◌, ◌≤◌, Bool, true, false, ◌&&◌, eqb, ltb, leb, List, length, get_or, take, sym, ap, ◌∙◌, subst, ⊎_elim, arith, length-take}
+use Rattle.std.proofs.Common.{◌≡◌, ℕ, ◌+◌, ◌-◌, ◌<◌, ◌≤◌, Bool, true, false, ◌&&◌, eqb, ltb, leb, List, length, get_or, take, sym, ap, ◌∙◌, ⊎_elim, arith, length-take}
 use Rattle.std.proofs.lemmas.List.{get_or_past, get_or-take}
-use Rattle.std.proofs.lemmas.Bool.{cases_lt, cases_eq, and_parts, and_left, and_right, ltb-true, lt-ltb, le-ltb, le-leb, lt-leb, ne_eqb}
+use Rattle.std.proofs.lemmas.Bool.{cases_lt, and_parts, and_left, and_right, ltb-true, lt-ltb, le-ltb, le-leb, lt-leb, ne_eqb}
 use Rattle.words.specs.Sets.{has}
 use Rattle.words.proofs.Words.{has_none}
 use Rattle.book.specs.Sections.{says}

@@ -122,12 +122,12 @@ pub fn tabulate<F: Fn(usize) -> u64>(row: F) -> [u64; 64]
     requires { (k : ℕ) → k < 64 → F.pre row k }
     ensures { (k : ℕ) → k < 64 → F.post row k (slice_index result k) }
 {
-    array::from_fn(|k|
-        requires { F.pre row k }
-        ensures { F.post row k result }
-    {
-        row(k)
-    })
+    array::from_fn(
+        |k|
+            requires { F.pre row k }
+            ensures { F.post row k result }
+        { row(k) },
+    )
 }
 
 // Two words with the same members are the same word, so the contracts above pin their results; and the word that is
