@@ -73,7 +73,7 @@ impl<'a> Items<'a> {
 }
 
 // The first item of a text, and the items after it.
-pub fn cut(text: &str) -> (&str, &str)
+fn cut(text: &str) -> (&str, &str)
     ensures first { result.0.now ≡ first_item text.now }
     ensures others { result.1.now ≡ other_items text.now }
 {

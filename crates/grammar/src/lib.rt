@@ -9,7 +9,7 @@ ghost use Rattle.grammar.specs.declared.Call.{Call};
 mod items;
 
 use items::Items;
-pub use items::{cut, number};
+pub use items::number;
 use questions::{Base, Source, UnknownHierarchy};
 use std::error::Error;
 use std::fmt;

@@ -2,7 +2,7 @@
 #![tactic(auto)]
 
 ghost use Rattle.std.specs.Prelude.{◌≡◌, ◌≢◌, ℕ, length, Some, codes, MatchResult};
-ghost use Rattle.denial.specs.Denials.{answer, and_then, record_report, denial_report};
+ghost use Rattle.denial.specs.Denials.{answer, denial_report};
 ghost use Rattle.book.specs.Views.{view};
 ghost use Rattle.roles.specs.Told.{marked};
 ghost use Rattle.roles.specs.Closure.{closure};
@@ -12,7 +12,7 @@ ghost use Rattle.questions.specs.declared.Base.{Base};
 ghost use Rattle.questions.specs.declared.Source.{Source};
 
 use book::Book;
-use denial::{Denial, RecordDenial};
+use denial::Denial;
 use meaning::{Hierarchy, Order, World};
 use roles::rows::Rows;
 use roles::told::Told;
@@ -190,15 +190,8 @@ pub fn transitive(book: &Book, source: Source, r: usize) -> Result<bool, Denial>
     Question::Transitive(r).put(book, source)
 }
 
-// How many individuals are on the sheet, for what reading the book came to.
-// Stays: a book that was not read is refused here, so that this refusal is part of what is promised of the answer.
-pub fn drawn(book: Result<Book, RecordDenial>, words: &[u64]) -> Result<usize, Denial>
-    ensures { answer (λ m. m) denial_report result ≡ and_then (answer view record_report book) (λ s. individuals_of s words.now) }
-{
-    individuals(&book?, words)
-}
-
-fn individuals(book: &Book, words: &[u64]) -> Result<usize, Denial>
+// How many individuals are on the sheet.
+pub fn individuals(book: &Book, words: &[u64]) -> Result<usize, Denial>
     ensures { answer (λ m. m) denial_report result ≡ individuals_of (view book.now) words.now }
 {
     Ok(Sheet::new(words, book)?.individuals())

@@ -105,7 +105,7 @@ impl Session {
     {
         let words = words_of(self.heap, count, named)?;
         self.words = None;
-        let m = questions::drawn(self.book, words.as_slice())?;
+        let m = questions::individuals(&self.book?, words.as_slice())?;
         self.words = Some(words);
         Ok(format!(in self.heap; "sheet {m}\n")?)
     }
