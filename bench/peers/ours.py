@@ -1,5 +1,6 @@
 """The register, by the program `calls` of this repository, in one process for a book that is spoken to line by line."""
 import contextlib
+import functools
 import re
 import select
 import subprocess
@@ -16,6 +17,7 @@ class OverTime(Exception):
     pass
 
 
+@functools.cache
 def program(crate):
     """The compiled program of a crate, built anew, which is quick where nothing has changed."""
     subprocess.run([TOP / "bench" / "build", crate], check=True)
