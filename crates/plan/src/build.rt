@@ -46,7 +46,8 @@ fn over(book: &Book, base: &Rows) -> Result<Plan, Denial>
     Ok(assembled(&draft, &universal))
 }
 
-// The plan, where all tests were passed.
+// The plan, where all tests were passed. Not inlined, so that the stack that it takes is free again before a search.
+#[inline(never)]
 fn assembled(draft: &Draft, universal: &Universal<Rows>) -> Plan
     requires opens { Opens (box_of draft.now.base.now) (says (view draft.now.book.now)) }
     requires over { universal.now.base.now ≡ draft.now.base.now }

@@ -41,7 +41,8 @@ impl Register {
         })
     }
 
-    // The same under the book's own hierarchy.
+    // The same under the book's own hierarchy. Not inlined, so that the stack that it takes is free again before a search.
+    #[inline(never)]
     pub fn open_own(book: &Book) -> Result<Register, Denial>
         ensures answer { answer opening denial_report result ≡ verdict (roles_of (view book.now)) (says (view book.now)) }
         ensures setup { IfOk result (λ g. setup_of g ≡ setup (roles_of (view book.now)) (says (view book.now))) }
