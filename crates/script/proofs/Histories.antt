@@ -14,7 +14,7 @@ use Rattle.runs.specs.Steps.{Call as Lent, Done, step}
 use Rattle.runs.specs.Runs.{Event, event, Run}
 use Rattle.script.specs.Hexes.{bytes_in}
 use Rattle.script.specs.Sessions.{Opened, Held, Turn, started, drawn, drawn_by, opening_on, opened_by, open_or, lent_call, CalledOn, CallComes}
-use Rattle.script.specs.Histories.{with_call, unless_read, events_after, Session, begun, led, classes_after, RunsOn, RunsIfOpen, SessionsRun}
+use Rattle.script.specs.Histories.{with_call, unless_read, events_after, Session, begun, led, classes_after, RunsIfOpen, SessionsRun}
 use Rattle.runs.proofs.Rightness.{every_run_is_right}
 use Rattle.script.proofs.Soundness.{opens}
 

@@ -1,5 +1,5 @@
 -- What was read is sound, and where a register is opened on it, what the theorems about the search ask for holds.
-use Rattle.std.proofs.Common.{◌≡◌, ℕ, ◌+◌, ◌*◌, ◌/◌, ◌≤◌, true, not, ◌&&◌, ltb, List, length, is_some, take, drop, Some, None, Option, refl, sym, subst, arith}
+use Rattle.std.proofs.Common.{◌≡◌, ℕ, ◌+◌, ◌*◌, ◌/◌, ◌≤◌, true, not, ◌&&◌, ltb, List, length, is_some, drop, Some, None, Option, refl, sym, subst, arith}
 use Rattle.std.proofs.lemmas.Bool.{and_parts, ltb-true}
 use Rattle.std.proofs.lemmas.List.{length-take-le, length-drop}
 use Rattle.denial.specs.declared.Report.{Report}
