@@ -7,10 +7,10 @@ use roles::rows::Rows;
 use search::Node;
 use std::test::Fail;
 
-// A register on the book in the bytes, under its closure rows.
+// A register on the book in the bytes, under its own hierarchy.
 fn opened(bytes: &[u8]) -> Result<Register, Fail> {
     let book = read(bytes)?;
-    Ok(Register::open(&book, &Rows::closed(&book))?)
+    Ok(Register::open_own(&book)?)
 }
 
 // The number and the detail of a refusal.

@@ -2,4 +2,5 @@ pub mod Coming
 pub mod Fresh
 pub mod Histories
 pub mod Naming
+pub mod Soundness
 pub mod Reading

@@ -10,7 +10,7 @@ use Rattle.grammar.specs.declared.Action.{Action}
 use Rattle.plan.specs.Building.{verdict}
 use Rattle.runs.specs.Setups.{setup}
 use Rattle.runs.specs.Steps.{step}
-use Rattle.runs.specs.Runs.{Event, event, Run}
+use Rattle.runs.specs.Runs.{Event, event, Run, Right}
 use Rattle.script.specs.Hexes.{bytes_in}
 use Rattle.script.specs.Sessions.{Opened, Held, fresh, Turn, lent_call, register_of, CallComes}
 
@@ -44,17 +44,21 @@ abbrev pub classes_after : List ℕ → List Event → List ℕ
 classes_after cs [] = cs
 classes_after cs (e ∷ es) = classes_after e.done.classes es
 
--- The register was opened on the book in the bytes, and the events are a run of it, which left its classes as they stand.
-abbrev pub RunsOn : List ℕ → Opened → List Event → Type 0
-RunsOn bytes g run =
-    (s : Sections) × (reading bytes ≡ granted s) × (verdict (roles_of s) (says s) ≡ granted tt) × (g.setup ≡ setup (roles_of s) (says s))
-    × Run g.setup [] run × (g.classes ≡ classes_after [] run)
+-- The register was opened on the book in the bytes, under the book's own hierarchy; the events are a run of it, which left its
+-- classes as they stand; and the run is right.
+pub record RunsOn (bytes : List ℕ) (g : Opened) (run : List Event) : Type 0 where
+  pub book : Sections
+  pub read : reading bytes ≡ granted book
+  pub opened : verdict (roles_of book) (says book) ≡ granted tt
+  pub on : g.setup ≡ setup (roles_of book) (says book)
+  pub runs : Run g.setup [] run
+  pub stand : g.classes ≡ classes_after [] run
+  pub right : Right (roles_of book) (says book) run
 
 abbrev pub RunsIfOpen : List ℕ → Option Opened → List Event → Type 0
 RunsIfOpen bytes None run = run ≡ []
 RunsIfOpen bytes (Some g) run = RunsOn bytes g run
 
--- In every session the calls on the register are a run of a register on the book that is held. `EveryRunIsRight` says what is right
--- of every run.
+-- In every session the calls on the register are a run of a register on the book that is held, and the run is right.
 abbrev pub SessionsRun : Type 0
 SessionsRun = (h : Held) (run : List Event) → Session h run → RunsIfOpen h.bytes h.register run
