@@ -1,6 +1,5 @@
 -- What was read is sound, and where a register is opened on it, what the theorems about the search ask for holds.
-use Rattle.std.proofs.Common.{◌≡◌, ℕ, ◌+◌, ◌*◌, ◌/◌, ◌≤◌, true, not, ◌&&◌, ltb, List, length, is_some, drop, Some, None, Option, refl, sym, subst, arith}
-use Rattle.std.proofs.lemmas.Bool.{and_parts, ltb-true}
+use Rattle.std.proofs.Common.{◌≡◌, ℕ, ◌+◌, ◌*◌, ◌/◌, ◌≤◌, true, not, ◌&&◌, List, length, is_some, drop, Some, None, Option, refl, sym, subst, arith}
 use Rattle.std.proofs.lemmas.List.{length-take-le, length-drop}
 use Rattle.denial.specs.declared.Report.{Report}
 use Rattle.denial.specs.Denials.{Answer, granted, denied, and_then}
@@ -12,8 +11,7 @@ use Rattle.book.specs.Layouts.{laying, unless_bad, Laid}
 use Rattle.book.specs.Reading.{cut, sections_of, checking, reading}
 use Rattle.book.proofs.Layouting.{laid_from}
 use Rattle.book.proofs.Soundness.{good, sound}
-use Rattle.roles.specs.Told.{marked}
-use Rattle.roles.specs.Laws.{closure_law}
+use Rattle.roles.specs.Laws.{closure_law, marked_inside}
 use Rattle.roles.specs.Hierarchies.{roles_of}
 use Rattle.tableau.specs.Promises.{Opens}
 use Rattle.plan.specs.Building.{verdict}
@@ -62,5 +60,5 @@ opens bytes s e v =
     let n = length s.roles in
     (verdict_opens (roles_of s) (says s) (record {
       law = closure_law n s.pairs h.few_roles;
-      inside = λ r t. ltb-true r n (and_parts (ltb r n) (marked s.roles r) t).0;
+      inside = marked_inside s.roles;
     }) h).0 v
