@@ -1,5 +1,5 @@
 -- From a book to the run of its listing.
-use Rattle.std.proofs.Common.{◌≡◌, ℕ, List, [], ◌∷◌, map, refl, ap, ◌∙◌, arith}
+use Rattle.std.proofs.Common.{◌≡◌, ℕ, List, [], ◌∷◌, map, refl, ap, ◌∙◌, subst, arith}
 use Rattle.denial.specs.Denials.{granted, denied, and_then}
 use Rattle.denial.specs.declared.Report.{Report}
 use Rattle.book.specs.Sections.{Sections, says}
@@ -35,6 +35,8 @@ module _ (s : Sections) where
         → RightLines (roles_of s) (says s) lines
     opened_right right lines e = record {
       run = history S cs (filings n);
+      runs = subst (λ T. Run T [] (history S cs (filings n))) setup-is
+          (subst (λ ds. Run S ds (history S cs (filings n))) fresh (runs_by_calls.history_runs S cs (filings n)));
       calls = history_calls S cs (filings n) ∙ ap filings all;
       lines_are = e;
       right = right (history S cs (filings n)) (runs_by_calls.history_runs S cs (filings n));

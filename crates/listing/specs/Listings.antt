@@ -9,7 +9,7 @@ use Rattle.roles.specs.Hierarchies.{roles_of}
 use Rattle.plan.specs.Building.{verdict}
 use Rattle.runs.specs.Setups.{setup}
 use Rattle.runs.specs.Steps.{Call, file, ask, show, Reply, class, said, shown, refused}
-use Rattle.runs.specs.Runs.{Event, history, Right}
+use Rattle.runs.specs.Runs.{Event, Run, history, Right}
 use Rattle.lines.specs.Listings.{line_of_class, line_of_denied_entry, line_of_book}
 
 -- the nodes that each filing is lent
@@ -60,10 +60,12 @@ listed (denied r) = line_of_book r.number
 unfoldable pub listing_of : List ℕ → List ℕ
 listing_of bytes = listed (and_then (reading bytes) opened_run)
 
--- The lines of a listing of the book are those of a run in which each of its entries was filed, upward from 0; and the run is right. So
--- two entries have lines with one class number exactly when no finite world that keeps the book holds them apart.
+-- The lines of a listing of the book are those of the run of a fresh register in which each of its entries was filed, upward from 0;
+-- and the run is right. So of the entries that are not refused, two have lines with one class number exactly when no finite world that
+-- keeps the book holds them apart.
 pub record RightLines (H : RoleBox) (K : Book) (lines : List ℕ) : Type 0 where
   pub run : List Event
+  pub runs : Run (setup H K) [] run
   pub calls : map (λ e. e.call) run ≡ filings K.entries
   pub lines_are : lines ≡ lines_of run
   pub right : Right H K run

