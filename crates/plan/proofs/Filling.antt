@@ -1,9 +1,11 @@
 -- The working entries by their place, and the sets of them.
-use Rattle.std.proofs.Common.{◌≡◌, ℕ, ◌+◌, ◌-◌, ◌<◌, ◌≤◌, Bool, true, false, ◌&&◌, eqb, ltb, leb, List, length, get_or, take, sym, ap, ◌∙◌, ⊎_elim, arith, length-take}
+use Rattle.std.proofs.Common.{◌≡◌, ℕ, zero, suc, ◌+◌, ◌-◌, ◌*◌, ◌%◌, ◌^◌, ◌<◌, ◌≤◌, Bool, true, false, ◌&&◌, eqb, ltb, leb, List, length, get_or, take, sym, ap, ◌∙◌, ⊎_elim, arith, mul-lt-mul_of_pos_right, pow_pos, pow_mono, pow-add, length-take}
+use Rattle.std.specs.Int.Bits.{shifted_even, shifted_half}
+use Rattle.std.proofs.Math.Nat.{mod-eq_of_lt}
 use Rattle.std.proofs.lemmas.List.{get_or_past, get_or-take}
 use Rattle.std.proofs.lemmas.Bool.{cases_lt, and_parts, and_left, and_right, ltb-true, lt-ltb, le-ltb, le-leb, lt-leb, ne_eqb}
 use Rattle.words.specs.Sets.{has}
-use Rattle.words.proofs.Words.{has_none}
+use Rattle.words.proofs.Words.{has_none, has_first, has_next}
 use Rattle.book.specs.Sections.{says}
 use Rattle.book.specs.Views.{view}
 use Rattle.meaning.specs.Books.{Book}
@@ -21,6 +23,27 @@ use Rattle.plan.specs.Building.{box_of}
 use Rattle.plan.specs.Plans.{listed_entry}
 use Rattle.plan.specs.Signs.{Signs, said_of}
 use Rattle.plan.specs.Listing.{noted_as}
+
+-- a set, each of its members raised by f
+pub has_raised : (w f j : ℕ) → has (w * 2 ^ f) j ≡ (leb f j && has w (j - f))
+has_raised w zero j =
+    let same : w * 2 ^ 0 ≡ w = omega arith in
+    let here : j ≡ j - 0 = omega arith in
+    ap (λ n. has n j) same ∙ ap (has w) here ∙ sym (ap (λ b. b && has w (j - 0)) (le-leb 0 j (omega arith)))
+has_raised w (suc f) zero = has_first (w * 2 ^ suc f) ∙ ap (λ n. eqb n 1) (shifted_even w f) ∙ sym (and_left _ _ (lt-leb (suc f) zero (omega arith)))
+has_raised w (suc f) (suc j) =
+    let same : j - f ≡ suc j - suc f = omega arith in
+    has_next (w * 2 ^ suc f) j ∙ ap (λ n. has n j) (shifted_half w f) ∙ has_raised w f j ∙ ap (λ k. leb f j && has w k) same
+    ∙ ap (λ b. b && has w (suc j - suc f)) (⊎_elim
+    (λ low. lt-leb f j low ∙ sym (lt-leb (suc f) (suc j) (omega arith)))
+    (λ above. le-leb f j above ∙ sym (le-leb (suc f) (suc j) (omega arith)))
+    (cases_lt j f))
+
+-- raised, a set of numbers below n is a word where n and f fit one
+pub raised_fits : (w n f : ℕ) → w < 2 ^ n → n + f ≤ 64 → (w * 2 ^ f) % 2 ^ 64 ≡ w * 2 ^ f
+raised_fits w n f small fits =
+    let below : w * 2 ^ f < 2 ^ n * 2 ^ f = mul-lt-mul_of_pos_right small (pow_pos f) in
+    mod-eq_of_lt (omega (arith, below, pow-add 2 n f, pow_mono fits))
 
 -- a propagated restriction stands before the rules
 pub propagated_inside : (H : RoleBox) (K : Book) (i j : ℕ) → propagates_of H K i j ≡ true → j < plain_of H K
@@ -79,6 +102,19 @@ module _ (d : Draft) where
       ap (λ f. eqb (get_or d.list.noted (j - f) (noted_as nowhere)).origin i) e ∙ ap (λ o. eqb o.origin i) held
       ∙ sym (ap (λ b. b && (ltb j (plain_of H K) && eqb (get_or (propagated_list H K) (j - K.entries) nowhere).origin i)) (le-leb K.entries j (omega arith))
       ∙ ap (λ b. b && eqb (get_or (propagated_list H K) (j - K.entries) nowhere).origin i) (lt-ltb j (plain_of H K) l))
+
+  -- those of an entry are its places in the list, raised by the number of the book's entries
+  pub places_raised : (i j first : ℕ) → first ≡ K.entries
+      → (leb first j && (ltb (j - first) d.list.count && eqb (get_or d.list.noted (j - first) (noted_as nowhere)).origin i)) ≡ propagates_of H K i j
+  places_raised i j first e =
+      let is : Bool = eqb (get_or d.list.noted (j - first) (noted_as nowhere)).origin i in
+      ⊎_elim
+      (λ low. and_left _ _ (lt-leb first j low) ∙ sym (springs_out H K i j first e (λ g l. omega arith)))
+      (λ above. ap (λ b. b && (ltb (j - first) d.list.count && is)) (le-leb first j above) ∙ ⊎_elim
+      (λ inside. ap (λ b. b && is) (lt-ltb (j - first) d.list.count inside) ∙ springs_in i j first e above (omega (arith, d.lists.counted)))
+      (λ past. and_left _ _ (le-ltb (j - first) d.list.count past) ∙ sym (springs_out H K i j first e (λ g l. omega (arith, d.lists.counted))))
+      (cases_lt (j - first) d.list.count))
+      (cases_lt j first)
 
   -- an entry from 64 on is the origin of none
   none_of : (i j : ℕ) → 64 ≤ i → propagates_of H K i j ≡ false

@@ -103,18 +103,12 @@ impl<'a> Draft<'a> {
         words::tabulate(|i| self.propagated_of(i))
     }
 
+    // Those of entry i: their places in the list, raised by the number of the book's entries.
     fn propagated_of(&self, i: usize) -> u64
         ensures { (j : ℕ) → has result j ≡ propagates_of (box_of self.now.base.now) (says (view self.now.book.now)) i j }
     {
-        words::collect(self.plain(), |j| self.propagates(i, j))
-    }
-
-    // Whether entry j is a propagated restriction of entry i.
-    fn propagates(&self, i: usize, j: usize) -> bool
-        ensures { result ≡ propagates_of (box_of self.now.base.now) (says (view self.now.book.now)) i j }
-    {
-        let first = self.book.entry_count();
-        first <= j && j < self.plain() && self.list.noted[j - first].origin as usize == i
+        let places = words::collect(self.list.count, |k| self.list.noted[k].origin as usize == i);
+        places << self.book.entry_count()
     }
 }
 

@@ -5,11 +5,16 @@ ghost use Rattle.roles.specs.Rows.{related};
 
 use meaning::{Hierarchy, Order};
 
-// The set of the roles that r is below.
+// The set of the roles that r is below. Nothing is asked of a number that is no role: the law of orders says that it is below none.
 fn row<H: Hierarchy>(h: &H, r: usize) -> u64
     ensures { (s : ℕ) → has result s ≡ H.Order.under h.now r s }
 {
-    words::collect(h.count(), |s| h.below(r, s))
+    let count = h.count();
+    if r < count {
+        words::collect(count, |s| h.below(r, s))
+    } else {
+        0
+    }
 }
 
 // A row for each role.
