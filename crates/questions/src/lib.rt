@@ -183,11 +183,11 @@ pub fn below(book: &Book, source: Source, r: usize, s: usize) -> Result<bool, De
     Question::Below(r, s).put(book, source)
 }
 
-// Whether the role r is transitive.
+// Whether the role r is transitive. The two hierarchies of a book say the same, so the told pairs are asked, which need no closure.
 pub fn transitive(book: &Book, source: Source, r: usize) -> Result<bool, Denial>
     ensures { answer (λ b. b) denial_report result ≡ transitive_of source (view book.now) r }
 {
-    Question::Transitive(r).put(book, source)
+    Question::Transitive(r).put_over(&Told::new(book), source.universal)
 }
 
 // How many individuals are on the sheet.
