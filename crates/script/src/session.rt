@@ -115,7 +115,7 @@ impl Session {
         ensures { ComesTo result (λ o. o ≡ called (asked_book question (held_of self.now).bytes)) }
     {
         let heap = self.heap;
-        let book = self.book?;
+        let book = self.book.as_ref().map_err(|lower| *lower)?;
         let answer = match question {
             BookQuestion::Read => {
                 let roles = book.role_count();
@@ -126,10 +126,10 @@ impl Session {
             }
             BookQuestion::Parts => answer::parts(heap, self.bytes.as_slice())?,
             BookQuestion::Below(source, r, s) => {
-                yes_or_no(heap, questions::below(&book, source, r, s)?)?
+                yes_or_no(heap, questions::below(book, source, r, s)?)?
             }
             BookQuestion::Transitive(source, r) => {
-                yes_or_no(heap, questions::transitive(&book, source, r)?)?
+                yes_or_no(heap, questions::transitive(book, source, r)?)?
             }
         };
         Ok(answer)
@@ -140,17 +140,17 @@ impl Session {
         ensures { ComesTo result (λ o. (a : Answer (List ℕ)) × AskedWorld question (held_of self.now) a × (o ≡ called a)) }
     {
         let heap = self.heap;
-        let book = self.book?;
+        let book = self.book.as_ref().map_err(|lower| *lower)?;
         let Some(words) = &self.words else {
             return Ok(String::from_str(heap, "no world\n")?);
         };
         let answer = match question {
             WorldQuestion::Judge(entry) => {
-                let set = questions::judged(&book, words.as_slice(), entry)?;
+                let set = questions::judged(book, words.as_slice(), entry)?;
                 format!(in heap; "set {set:x}\n")?
             }
             WorldQuestion::Keeps(base) => {
-                let kept = questions::kept(&book, words.as_slice(), base)?;
+                let kept = questions::kept(book, words.as_slice(), base)?;
                 String::from_str(heap, if kept { "keeps yes\n" } else { "keeps no\n" })?
             }
         };

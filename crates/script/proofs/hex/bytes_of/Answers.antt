@@ -1,9 +1,12 @@
-use Rattle.std.proofs.Common.{◌≡◌, Some, vec_items, ◌∙◌, arith}
+use Rattle.std.proofs.Common.{◌≡◌, Some, vec_items, refl, ◌∙◌, arith}
 use Rattle.std.specs.Slice.Iter.{chunks_rest, chunks_size}
 use Rattle.std.proofs.lemmas.Grind.{common_steps}
 use Rattle.script.specs.Hexes.{byte_of, bytes_in}
-use Rattle.script.proofs.Reading.{pair_goes}
+use Rattle.script.proofs.Reading.{odd_none, pair_goes}
 use Rattle.script.proofs.hex.bytes_of.Goals as goal
+
+pub returns-then-hex-ne0 : goal.returns-then-hex-ne0
+returns-then-hex-ne0 c = rw (odd_none c.args.hex.now (λ e. c.if-hex-ne0.true e)) refl
 
 pub loop-pair-preserved : goal.loop-pair-preserved
 loop-pair-preserved c =
