@@ -1,5 +1,5 @@
 // Reading: the layout by the trailer, then every record of every section.
-ghost use Rattle.std.specs.Prelude.{◌≡◌, ◌+◌, ◌/◌, ◌<◌, ◌≤◌, true, length, take, IfSome, IfOk, OnOk};
+ghost use Rattle.std.specs.Prelude.{◌≡◌, ◌+◌, ◌-◌, ◌/◌, ◌<◌, ◌≤◌, true, ◌++◌, length, replicate, take, IfSome, IfOk, OnOk};
 ghost use Rattle.denial.specs.Denials.{answer, granted, record_report};
 ghost use Rattle.meaning.specs.Books.{Sound};
 ghost use Rattle.book.specs.Kinds.{kind_of};
@@ -101,7 +101,8 @@ impl<'a> Lent<'a> {
 // The bytes, and zeros after them.
 fn padded<const N: usize>(bytes: &[u8]) -> [u8; N]
     requires { length bytes.now ≤ N }
-    ensures { take (length bytes.now) result ≡ bytes.now }
+    ensures value { result ≡ bytes.now ++ replicate (N - length bytes.now) 0 }
+    ensures front { take (length bytes.now) result ≡ bytes.now }
 {
     let mut all = [0; N];
     all[..bytes.len()].copy_from_slice(bytes);
